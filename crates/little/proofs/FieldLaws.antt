@@ -11,7 +11,7 @@ use borrow.Author.Tests.{le-leb, lt-leb}
 use lib.Arith.{mod-mul}
 use lib.Dec.{leb, lit<}
 use lib.ListN.{length, getD, set, take, drop, List·getD-eq-default}
-use lib.Seq.{drop-cons, take-suc-set, append-snoc, take-all}
+use lib.Seq.{getD-drop, drop-cons, take-suc-set, append-snoc, take-all}
 use Rattle.little.specs.Parts.{part, put}
 use Rattle.little.specs.Fields.{Bytes, le, bytesOf, fits, putLe}
 use Rattle.little.specs.Laws.{LittleLaws}
@@ -51,6 +51,12 @@ pub le-part : (width : ℕ) (s : List ℕ) (from n at : ℕ) → at + width ≤ 
 le-part width s from n at h =
     le-same width (part s from n) s at (from + at)
     (λ k u. let e : from + (at + k) ≡ from + at + k = omega arith in getD-part s from n (at + k) (omega arith) ∙ ap (λ (i : ℕ). getD s i 0) e)
+
+-- a number in the rest of a list
+pub le-drop : (width : ℕ) (s : List ℕ) (from at : ℕ) → le (drop from s) at width ≡ le s (from + at) width
+le-drop width s from at =
+    le-same width (drop from s) s at (from + at)
+    (λ k u. let e : from + (at + k) ≡ from + at + k = omega arith in getD-drop from s (at + k) 0 ∙ ap (λ (i : ℕ). getD s i 0) e)
 
 -- ---- the bytes of a number
 

@@ -1,8 +1,15 @@
 // Little-endian fields of a slice at 16, 32 and 64 bits: total readers and writers over one definition of the width.
 ghost use mathlib.Core.Path.{_≡_};
 ghost use Prim.Native.Nat.{ℕ, _+_, _-_, _^_, _<_, _≤_, min};
-ghost use lib.ListN.{length};
+ghost use lib.ListN.{length, getD};
 ghost use Rattle.little.specs.Fields.{le, bytesOf, putLe, fits};
+
+// The byte at a place, and 0 past the end.
+pub fn byte_at(s: &[u8], at: usize) -> u8
+    ensures { λ r. ⌜ r ≡ getD (now (s .entry)) at 0 ⌝ }
+{
+    if at < s.len() { s[at] } else { 0 }
+}
 
 // How many of `width` bytes from `at` on lie in a slice of `len` bytes.
 fn inside(len: usize, at: usize, width: usize) -> usize
