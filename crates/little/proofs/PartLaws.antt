@@ -8,11 +8,17 @@ use native.Mathlib.Decide.{decLt}
 use native.Mathlib.Nat.{mul-le-mul-right}
 use native.Mathlib.Omega.{arith}
 use lib.ListN.{length, getD, set, take, drop, length-append, length-take, length-drop, take-append-drop, List·getD-append}
-use lib.Seq.{getD-take, getD-drop, getD-append-add, getD-set-same, getD-set-other, length-take-le, take-append-le, drop-append-le, drop-append-add, take-take, drop-drop, drop-at, take-at, ext-getD, take-set-le, drop-set-lt, take-set-lt, drop-set-add, take-all}
+use lib.Seq.{drop-cons, getD-take, getD-drop, getD-append-add, getD-set-same, getD-set-other, length-take-le, take-append-le, drop-append-le, drop-append-add, take-take, drop-drop, drop-at, take-at, ext-getD, take-set-le, drop-set-lt, take-set-lt, drop-set-add, take-all}
 use Rattle.little.specs.Parts.{part, put, block, putBlock}
 
 pub below-or : (a b : ℕ) → (a < b) ⊎ (b ≤ a)
 below-or a b = elim (decLt a b) [ yes h ↦ inl h | no h ↦ inr (omega arith) ]
+
+-- one element more at the front, for a loop that counts i down
+pub drop-down : (xs : List ℕ) (i : ℕ) → 0 < i → i ≤ length xs → drop (i - 1) xs ≡ getD xs (i - 1) 0 ∷ drop i xs
+drop-down xs i h k =
+    let e : suc (i - 1) ≡ i = omega arith in
+    rw e at (drop-cons xs (i - 1) 0 (omega arith))
 
 -- ---- a part
 

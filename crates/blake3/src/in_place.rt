@@ -1,0 +1,33 @@
+// The running hash as one record updated in place: two thin functions over the methods by value.
+use crate::running::Answer;
+use crate::running::Finished;
+use crate::running::Running;
+ghost use mathlib.Core.List.{[], _∷_};
+ghost use mathlib.Core.Path.{_≡_};
+ghost use Rattle.blake3.specs.Running as spec;
+
+// Feeds the record that stands behind the reference, which a refusal leaves as it stood.
+pub fn feed_in_place(state: &mut Running, part: &[u8]) -> Answer
+    ensures { λ r. ⌜ spec.afterFeed r (now (state .exit)) ≡ spec.fedWith (now (state .entry)) (now (part .entry)) ⌝ }
+{
+    let fed = Running::feed(*state, part);
+    *state = fed.state;
+    fed.answer
+}
+
+// Finishes with a record that stands behind a reference, and leaves it as it is.
+pub fn finish_in_place(state: &Running) -> Finished
+    ensures { λ r. ⌜ r ≡ spec.finished (now (state .entry)) ⌝ }
+{
+    Running::finish(*state)
+}
+
+// The hash of two parts through one record of its own, fed in place: what a caller of the pair does, with plain parameters.
+pub fn hash_two_in_place(first: &[u8], second: &[u8]) -> Finished
+    ensures { λ r. ⌜ r ≡ spec.finished (spec.fedAll spec.fresh (now (first .entry) ∷ now (second .entry) ∷ [])) ⌝ }
+{
+    let mut state = Running::new();
+    feed_in_place(&mut state, first);
+    feed_in_place(&mut state, second);
+    finish_in_place(&state)
+}

@@ -1,0 +1,2 @@
+-- The definition that the exported call's contract cites.
+pub mod Into

@@ -1,0 +1,78 @@
+-- Sums of blocks: a turn of `mul_add`, and a turn of the encoder. Assumes nothing.
+use mathlib.Core.Path.{_≡_, refl, sym, _∙_, ap, ap₂}
+use mathlib.Core.List.{List, []}
+use Prim.Native.Nat.{ℕ, zero, suc, _+_, _-_, _*_, _/_, _%_, _<_}
+use native.Mathlib.Omega.{arith}
+use native.Mathlib.Numerals.{add-one}
+use lib.ListN.{getD, length, take, drop}
+use lib.Bits.{bitXor, xor-comm}
+use Rattle.gf16.specs.Field.{mul, inv}
+use Rattle.gf16.proofs.Laws.{laws}
+use Rattle.little.specs.Fields.{bytesOf}
+use Rattle.cauchy.proofs.WordBytes.{word-is, bytes-sum}
+use Rattle.cauchy.proofs.BlockLaws.{length-wordBytes, word-back, joined-ext, word-block, length-block}
+use Rattle.cauchy.proofs.MixLaws.{mixed, mixed-word}
+use Rattle.cauchy.specs.Code.{fieldSum, share, wordAt, wordBytes, recoveryWord, recoveryBlock}
+use Rattle.cauchy.specs.Inner.{mulAdded}
+use Rattle.little.specs.Parts.{block}
+
+abbrev pub mixing : ℕ → List ℕ → List ℕ → ℕ → ℕ
+mixing c dst src w = bitXor (wordAt dst (2 * w)) (mul c (wordAt src (2 * w)))
+
+-- a turn of `mul_add`
+pub mixing-made : (c : ℕ) (l src d : List ℕ) (w x y v : ℕ) → d ≡ mixed (mixing c l src) w l → 2 * w + 1 < length l
+    → x ≡ getD d (2 * w) 0 + 256 * getD d (2 * w + 1) 0 → y ≡ getD src (2 * w) 0 + 256 * getD src (2 * w + 1) 0 → v ≡ bitXor x (mul c y) → v ≡ mixing c l src w
+mixing-made c l src d w x y v e h ex ey ev = ev ∙ ap₂ (λ (p q : ℕ). bitXor p (mul c q)) (ex ∙ sym (word-is d (2 * w)) ∙ mixed-word (mixing c l src) w l d e h) (ey ∙ sym (word-is src (2 * w)))
+
+-- ---- sums of blocks
+
+pub mulAdded-of : (c : ℕ) (f g : ℕ → ℕ) (W : ℕ) (src : List ℕ) → ((w : ℕ) → w < W → bitXor (f w) (mul c (wordAt src (2 * w))) ≡ g w) → mulAdded c (wordBytes f 0 W) src ≡ wordBytes g 0 W
+unfolding mulAdded
+mulAdded-of c f g W src h =
+    let e : length (wordBytes f 0 W) / 2 ≡ W = omega (arith, length-wordBytes f 0 W) in
+    ap (wordBytes (λ w. bitXor (wordAt (wordBytes f 0 W) (2 * w)) (mul c (wordAt src (2 * w)))) 0) e
+    ∙ joined-ext _ (λ w. bytesOf 2 (g w)) W
+    (λ w m. ap (λ (x : ℕ). bytesOf 2 (bitXor x (mul c (wordAt src (2 * w))))) (word-back f W w m) ∙ bytes-sum (f w) (mul c (wordAt src (2 * w))) ∙ ap (bytesOf 2) (h w m))
+
+-- word w of the sum of the shares of the first j data blocks
+abbrev pub firstShares : ℕ → ℕ → ℕ → List ℕ → ℕ → ℕ → ℕ
+firstShares m s k store j w = fieldSum (λ i. share m s store k w i) 0 j
+
+-- one share more, at the end
+sum-more : (f : ℕ → ℕ) (c j : ℕ) → fieldSum f c (suc j) ≡ bitXor (fieldSum f c j) (f (c + j))
+unfolding fieldSum
+sum-more f c zero = let e : c ≡ c + 0 = omega arith in xor-comm (f c) 0 ∙ ap (λ (x : ℕ). bitXor 0 (f x)) e
+sum-more f c (suc j) =
+    let e : suc c + j ≡ c + suc j = omega arith in
+    ap (bitXor (f c)) (sum-more f (suc c) j)
+    ∙ sym (laws .add-assoc (f c) (fieldSum f (suc c) j) (f (suc c + j)))
+    ∙ ap (λ (x : ℕ). bitXor (bitXor (f c) (fieldSum f (suc c) j)) (f x)) e
+
+pub sum-start : (m s k : ℕ) (store : List ℕ) (W : ℕ) → wordBytes (λ _. 0) 0 W ≡ wordBytes (firstShares m s k store 0) 0 W
+unfolding fieldSum
+sum-start m s k store W = refl
+
+-- a turn of the encoder
+pub sum-turn : (m s k : ℕ) (store out made : List ℕ) (j c width : ℕ) → s % 2 ≡ 0 → out ≡ wordBytes (firstShares m s k store j) 0 (s / 2)
+    → c ≡ inv (bitXor k (m + j)) → width ≡ s → made ≡ mulAdded c out (take width (drop (j * s) store))
+    → made ≡ wordBytes (firstShares m s k store (j + 1)) 0 (s / 2)
+sum-turn m s k store out made j c width hs eo ec ew em =
+    let e : s ≡ 2 * (s / 2) = omega arith in
+    em
+    ∙ ap₂ (λ (x : ℕ) (l : List ℕ). mulAdded x l (take width (drop (j * s) store))) ec eo
+    ∙ ap (λ (x : ℕ). mulAdded (inv (bitXor k (m + j))) (wordBytes (firstShares m s k store j) 0 (s / 2)) (take x (drop (j * s) store))) ew
+    ∙ mulAdded-of (inv (bitXor k (m + j))) (firstShares m s k store j) (firstShares m s k store (j + 1)) (s / 2) (block s store j)
+    (λ w h.
+    ap (λ (x : ℕ). bitXor (firstShares m s k store j w) (mul (inv (bitXor k (m + j))) x)) (word-block s (s / 2) store j w e h)
+    ∙ sym (ap (λ (x : ℕ). firstShares m s k store x w) (add-one j) ∙ sum-more (λ i. share m s store k w i) 0 j
+    ∙ ap (λ (x : ℕ). bitXor (firstShares m s k store j w) (share m s store k w x)) (omega arith)))
+
+pub sum-end : (n m s k : ℕ) (store out : List ℕ) (j : ℕ) → j ≡ n → out ≡ wordBytes (firstShares m s k store j) 0 (s / 2) → out ≡ recoveryBlock n m s store k
+unfolding recoveryBlock recoveryWord
+sum-end n m s k store out j z e = rw z at e
+
+pub length-out : (f : ℕ → ℕ) (s : ℕ) (out : List ℕ) → s % 2 ≡ 0 → out ≡ wordBytes f 0 (s / 2) → length out ≡ s
+length-out f s out h e = ap length e ∙ length-wordBytes f 0 (s / 2) ∙ omega arith
+
+pub length-part : (n s j width : ℕ) (store : List ℕ) → length store ≡ n * s → j < n → width ≡ s → length (take width (drop (j * s) store)) ≡ s
+length-part n s j width store l h e = ap (λ (x : ℕ). length (take x (drop (j * s) store))) e ∙ length-block n s store j l h

@@ -1,0 +1,189 @@
+-- The loops of rebuilding, a law for each turn. Assumes nothing.
+use mathlib.Core.Path.{_≡_, refl, sym, _∙_, ap, ap₂}
+use mathlib.Core.Bool.{Bool, cond}
+use mathlib.Core.List.{List, [], _∷_, _++_}
+use Prim.Native.Nat.{ℕ, zero, suc, _+_, _-_, _*_, _/_, _%_, _≤_, _<_}
+use native.Mathlib.Nat.{mul-le-mul, mul-le-mul-right}
+use native.Mathlib.Omega.{arith}
+use native.Mathlib.Decide.{decLt, ℕ-discrete}
+use lib.ListN.{length, getD, take, drop, length-drop}
+use lib.Seq.{ext-getD, length-take-le}
+use lib.Dec.{ltb}
+use lib.Bits.{bitXor}
+use borrow.Author.Tests.{lt-ltb, le-ltb}
+use Rattle.gf16.specs.Field.{mul, inv}
+use Rattle.cauchy.proofs.CodeLaws.{mulAdded-of}
+use Rattle.cauchy.proofs.Linear.{tailFrom, tailFrom-all, tail-step, tail-start, length-unit, below-unit}
+use Rattle.cauchy.proofs.Filled.{put-before, put-in, put-filled, read-filled, length-filled, getD-filled, else-same}
+use Rattle.cauchy.specs.Inner.{Below, Ready, mulAdded, unit, entriesOf, Square, Inverse, Room, Rows, stepped, Weighs, AddsAll}
+use Rattle.cauchy.specs.System.{solve, field}
+use Rattle.cauchy.proofs.SystemLaws.{length-solve}
+use Rattle.cauchy.specs.Code.{wordBytes}
+use Rattle.cauchy.specs.Calls.{filled, inRange, byteOf}
+
+-- ---- places among the numbers
+
+pub square-inside : (e i : ℕ) → e ≤ 32 → i < e → i * e + e ≤ 1024
+square-inside e i h hi = omega (arith, mul-le-mul-right {m = i + 1} {n = e} e (omega arith), mul-le-mul {n₁ = e} {m₁ = e} {n₂ = 32} {m₂ = 32} h h)
+
+-- ---- number l of a solution
+
+pub weigh-start : (numbers v : List ℕ) (l : ℕ) (xs ys : List ℕ) → Inverse xs ys numbers → length v ≡ length xs → 0 ≡ getD (solve field xs ys (tailFrom (length v) v)) l 0
+weigh-start numbers v l xs ys I lv = sym (ap (λ (k : ℕ). getD (solve field xs ys (tailFrom k v)) l 0) lv ∙ tail-start xs ys (I .square) v l lv)
+
+pub weigh-turn : (numbers v : List ℕ) (l J sum r : ℕ) (xs ys : List ℕ) → Inverse xs ys numbers → length v ≡ length xs → Below 65536 v → 0 < J → J ≤ length v → l < length v
+    → sum ≡ getD (solve field xs ys (tailFrom J v)) l 0 → r ≡ bitXor sum (mul (getD v (J - 1) 0) (getD numbers ((J - 1) * length v + l) 0))
+    → r ≡ getD (solve field xs ys (tailFrom (J - 1) v)) l 0
+weigh-turn numbers v l J sum r xs ys I lv b hJ hv hl es er =
+    let d : J ≡ suc (J - 1) = omega arith in
+    er
+    ∙ ap₂ (λ (x y : ℕ). bitXor x (mul (getD v (J - 1) 0) y)) (es ∙ ap (λ (k : ℕ). getD (solve field xs ys (tailFrom k v)) l 0) d)
+    (ap (λ (k : ℕ). getD numbers ((J - 1) * k + l) 0) lv ∙ I .rows (J - 1) l (omega arith) (omega arith))
+    ∙ sym (tail-step xs ys (I .square) v (J - 1) l b lv (omega arith) (omega arith))
+
+pub weigh-end : (v : List ℕ) (l J sum : ℕ) (xs ys : List ℕ) → J ≡ 0 → sum ≡ getD (solve field xs ys (tailFrom J v)) l 0 → sum ≡ getD (solve field xs ys v) l 0
+weigh-end v l J sum xs ys z e = e ∙ ap (λ (k : ℕ). getD (solve field xs ys (tailFrom k v)) l 0) z ∙ ap (λ (x : List ℕ). getD (solve field xs ys x) l 0) (tailFrom-all v)
+
+-- ---- the inverse
+
+pub Rowed : List ℕ → List ℕ → List ℕ → ℕ → Type 0
+Rowed xs ys numbers i = (k l : ℕ) → k < i → l < length xs → getD numbers (k * length xs + l) 0 ≡ getD (solve field xs ys (unit (length xs) k)) l 0
+
+pub rowed-start : (xs ys numbers : List ℕ) → Rowed xs ys numbers 0
+unfolding Rowed
+rowed-start xs ys numbers k l h = absurd (omega arith)
+
+pub rowed-turn : (xs ys numbers row : List ℕ) (i width : ℕ) → Square xs ys → length xs ≤ 32 → i < length xs → length numbers ≡ 1024 → Rowed xs ys numbers i
+    → row ≡ solve field xs ys (unit (length xs) i) → Rowed xs ys (take (i * length xs) numbers ++ (row ++ drop width (drop (i * length xs) numbers))) (i + 1)
+unfolding Rowed
+rowed-turn xs ys numbers row i width q h32 hi ln R er k l hk hl = go (ℕ-discrete k i)
+  where
+    e : ℕ
+    e = length xs
+
+    room : i * length xs + length xs ≤ 1024
+    room = square-inside (length xs) i h32 hi
+
+    lr : length row ≡ length xs
+    lr = ap length er ∙ length-solve field xs ys (unit (length xs) i) ∙ q .size
+
+    go : Dec (k ≡ i) → getD (take (i * length xs) numbers ++ (row ++ drop width (drop (i * length xs) numbers))) (k * length xs + l) 0 ≡ getD (solve field xs ys (unit (length xs) k)) l 0
+    go (yes z) = rw z (put-in (i * length xs) width numbers row l (omega (arith, room)) (omega (arith, lr)) ∙ ap (λ (x : List ℕ). getD x l 0) er)
+    go (no n) = put-before (i * length xs) width numbers row (k * length xs + l) (omega (arith, room)) (omega (arith, mul-le-mul-right {m = k + 1} {n = i} (length xs) (omega arith))) ∙ R k l (omega arith) hl
+
+pub rowed-end : (xs ys numbers : List ℕ) (i : ℕ) → Square xs ys → length xs ≤ i → Rowed xs ys numbers i → Inverse xs ys numbers
+unfolding Rowed
+rowed-end xs ys numbers i q h R = record { square = q; rows = λ k l hk hl. R k l (omega arith) hl }
+
+pub unit-ready : (xs ys a : List ℕ) (i : ℕ) → Square xs ys → a ≡ unit (length xs) i → Ready 65536 xs ys a
+unit-ready xs ys a i q e = record { ys-size = q .size; a-size = ap length e ∙ length-unit (length xs) i; xs-below = q .xs-below; ys-below = q .ys-below; a-below = rw e (below-unit (length xs) i) }
+
+-- ---- zeros in scratch
+
+none-at : (s first count : ℕ) (base : List ℕ) (q : ℕ) → cond (inRange s first count 0 q) (byteOf (q % s % 2) 0) (getD base q 0) ≡ getD base q 0
+unfolding inRange
+none-at s first count base q = rw (le-ltb (q / s) 0 (omega arith))
+
+pub cleared-start : (s first count : ℕ) (base : List ℕ) → first + count ≤ s / 2 → base ≡ filled s first count 0 (λ l w. 0) base
+cleared-start s first count base h =
+    sym (ext-getD 0 (filled s first count 0 (λ l w. 0) base) base (length-filled s first count h 0 (λ l w. 0) base)
+    (λ q m. getD-filled s first count h 0 (λ l w. 0) base q (omega (arith, length-filled s first count h 0 (λ l w. 0) base)) ∙ none-at s first count base q))
+
+ltb-other : (l t : ℕ) → (l ≡ t → ⊥) → ltb l t ≡ ltb l (t + 1)
+ltb-other l t n = go (decLt l t)
+  where
+    go : Dec (l < t) → ltb l t ≡ ltb l (t + 1)
+    go (yes h) = lt-ltb l t h ∙ sym (lt-ltb l (t + 1) (omega arith))
+    go (no h) = le-ltb l t (omega arith) ∙ sym (le-ltb l (t + 1) (omega arith))
+
+pub cleared-turn : (s first count e t width : ℕ) (base F ys : List ℕ) → Room s first count e (2 * count) (length base) → t < e → width ≡ 2 * count
+    → F ≡ filled s first count t (λ l w. 0) base → ys ≡ wordBytes (λ _. 0) 0 (length (take width (drop (t * s + 2 * first) F)) / 2)
+    → take (t * s + 2 * first) F ++ (ys ++ drop width (drop (t * s + 2 * first) F)) ≡ filled s first count (t + 1) (λ l w. 0) base
+cleared-turn s first count e t width base F ys r ht ew eF ey =
+    let k : (t + 1) * s ≤ e * s = mul-le-mul-right {m = t + 1} {n = e} s (omega arith) in
+    let lF : length F ≡ length base = ap length eF ∙ length-filled s first count (r .words) t (λ l w. 0) base in
+    let lp : length (take width (drop (t * s + 2 * first) F)) ≡ width = length-take-le width (drop (t * s + 2 * first) F) (omega (arith, length-drop (t * s + 2 * first) F, r .inside, r .words)) in
+    let n : length (take width (drop (t * s + 2 * first) F)) / 2 ≡ count = omega arith in
+    put-filled s first count (r .words) t (t + 1) (λ l w. 0) (λ l w. 0) base F ys t width (omega (arith, r .least)) (omega arith) (omega (arith, r .inside)) ew (λ l n. ltb-other l t n) (λ l w n h. refl) eF (ey ∙ ap (wordBytes (λ _. 0) 0) n)
+
+-- ---- a part comes in
+
+abbrev pub mixing : List ℕ → List ℕ → List ℕ → List ℕ → ℕ → (ℕ → ℕ → ℕ) → ℕ → ℕ → ℕ → ℕ
+mixing xs ys v part first g t l w = cond (ltb l t) (stepped xs ys v part first g l w) (g l w)
+
+pub Adding : ℕ → ℕ → ℕ → List ℕ → List ℕ → List ℕ → List ℕ → List ℕ → ℕ → Type 0
+Adding s first count v numbers part old new t =
+    (xs ys : List ℕ) (g : ℕ → ℕ → ℕ) (base : List ℕ) → Inverse xs ys numbers → length v ≡ length xs → Below 65536 v → old ≡ filled s first count (length v) g base
+    → new ≡ filled s first count (length v) (mixing xs ys v part first g t) base
+
+filled-same : (s first count e : ℕ) (g h : ℕ → ℕ → ℕ) (base : List ℕ) → first + count ≤ s / 2 → ((l w : ℕ) → l < e → g l w ≡ h l w) → filled s first count e g base ≡ filled s first count e h base
+filled-same s first count e g h base k f =
+    ext-getD 0 (filled s first count e g base) (filled s first count e h base) (length-filled s first count k e g base ∙ sym (length-filled s first count k e h base))
+    (λ q m. let m′ : q < length base = omega (arith, length-filled s first count k e g base) in
+    getD-filled s first count k e g base q m′ ∙ else-same s first count e e g h base q refl (λ z. f (q / s) (q % s / 2) z) ∙ sym (getD-filled s first count k e h base q m′))
+
+pub adding-start : (s first count : ℕ) (v numbers part old : List ℕ) → first + count ≤ s / 2 → Adding s first count v numbers part old old 0
+unfolding Adding
+adding-start s first count v numbers part old h xs ys g base I lv b e = e ∙ filled-same s first count (length v) g (mixing xs ys v part first g 0) base h (λ l w _. sym (ap (λ (x : Bool). cond x (stepped xs ys v part first g l w) (g l w)) (le-ltb l 0 (omega arith))))
+
+pub adding-turn : (s first count : ℕ) (v numbers part old F made : List ℕ) (t c width : ℕ) → Room s first count (length v) (length part) (length old) → t < length v → length F ≡ length old → width ≡ 2 * count
+    → Weighs numbers v t c → Adding s first count v numbers part old F t → made ≡ mulAdded c (take width (drop (t * s + 2 * first) F)) part
+    → Adding s first count v numbers part old (take (t * s + 2 * first) F ++ (made ++ drop width (drop (t * s + 2 * first) F))) (t + 1)
+unfolding Adding
+adding-turn s first count v numbers part old F made t c width r ht lF ew W A em xs ys g base I lv b eo =
+    let eF : F ≡ filled s first count (length v) (mixing xs ys v part first g t) base = A xs ys g base I lv b eo in
+    let lb : length base ≡ length old = sym (ap length eo ∙ length-filled s first count (r .words) (length v) g base) in
+    put-filled s first count (r .words) (length v) (length v) (mixing xs ys v part first g t) (mixing xs ys v part first g (t + 1)) base F made t width (omega (arith, r .least)) ht (omega (arith, r .inside)) ew
+    (λ l n. refl) (λ l w n h. ap (λ (x : Bool). cond x (stepped xs ys v part first g l w) (g l w)) (ltb-other l t n)) eF
+    (em ∙ ap₂ (λ (x : ℕ) (y : List ℕ). mulAdded x y part) (W xs ys I lv b)
+    (ap (λ (x : List ℕ). take width (drop (t * s + 2 * first) x)) eF ∙ read-filled s first count (r .words) (length v) (mixing xs ys v part first g t) base t width ht (omega (arith, r .inside)) ew)
+    ∙ mulAdded-of (getD (solve field xs ys v) t 0) (λ u. mixing xs ys v part first g t t (first + u)) (λ u. mixing xs ys v part first g (t + 1) t (first + u)) count part
+    (λ u h. let z : first + u - first ≡ u = omega arith in
+    rw (le-ltb t t (omega arith), lt-ltb t (t + 1) (omega arith), z)))
+
+pub adding-end : (s first count : ℕ) (v numbers part old F : List ℕ) (t : ℕ) → first + count ≤ s / 2 → length v ≤ t → Adding s first count v numbers part old F t → AddsAll s first count v numbers part old F
+unfolding Adding
+adding-end s first count v numbers part old F t k h A xs ys g base I lv b e =
+    A xs ys g base I lv b e
+    ∙ filled-same s first count (length v) (mixing xs ys v part first g t) (stepped xs ys v part first g) base k (λ l w hl. ap (λ (x : Bool). cond x (stepped xs ys v part first g l w) (g l w)) (lt-ltb l t (omega arith)))
+
+-- ---- the entries of a column
+
+pub getD-entries : (xs : List ℕ) (y i : ℕ) → i < length xs → getD (entriesOf xs y) i 0 ≡ inv (bitXor (getD xs i 0) y)
+unfolding entriesOf
+getD-entries [] y i h = absurd (omega arith)
+getD-entries (x ∷ xs) y zero h = refl
+getD-entries (x ∷ xs) y (suc i) h = getD-entries xs y i (omega arith)
+
+pub length-entries : (xs : List ℕ) (y : ℕ) → length (entriesOf xs y) ≡ length xs
+unfolding entriesOf
+length-entries [] y = refl
+length-entries (x ∷ xs) y = ap suc (length-entries xs y)
+
+-- ---- places
+
+pub range-in : (s first count e p q t : ℕ) → Room s first count e p q → t < e → t * s + 2 * first + 2 * count ≤ e * s
+range-in s first count e p q t r h = omega (arith, mul-le-mul-right {m = t + 1} {n = e} s (omega arith), r .words)
+
+pub range-small : (s first count e p q : ℕ) → Room s first count e p q → e * s ≤ 131072
+range-small s first count e p q r = mul-le-mul {n₁ = e} {m₁ = s} {n₂ = 32} {m₂ = 4096} (r .few) (r .most)
+
+pub length-range : (l : List ℕ) (at width : ℕ) → at + width ≤ length l → length (take width (drop at l)) ≡ width
+length-range l at width h = length-take-le width (drop at l) (omega (arith, length-drop at l))
+
+pub room-for : (s first count e p q e′ p′ q′ : ℕ) → Room s first count e p q → e′ ≡ e → p′ ≡ 2 * count → q′ ≡ q → Room s first count e′ p′ q′
+room-for s first count e p q e′ p′ q′ r a b d = record { least = r .least; most = r .most; even = r .even; words = r .words; few = omega (arith, r .few); inside = rw (a, d) (r .inside); whole = b }
+
+-- the words of block b of the store, from first on
+pub record PartIn (n m s first count b : ℕ) (store : List ℕ) : Type 0 where
+  pub to : b * s + 2 * first + 2 * count ≤ length store
+  pub small : length store ≤ 4325376
+
+pub part-in : (n m s first count e p q b : ℕ) (xs store : List ℕ) → Room s first count e p q → Rows n m s xs store → b < n + m → PartIn n m s first count b store
+part-in n m s first count e p q b xs store r w h = record {
+  to = omega (arith, mul-le-mul-right {m = b + 1} {n = n + m} s (omega arith), r .words, w .size);
+  small = omega (arith, w .size, mul-le-mul {n₁ = n + m} {m₁ = s} {n₂ = 1056} {m₂ = 4096} (omega (arith, w .n-most, w .m-most)) (r .most));
+}
+
+pub part-long : (s first count b width : ℕ) (store : List ℕ) → width ≡ 2 * count → b * s + 2 * first + 2 * count ≤ length store → length (take width (drop (b * s + 2 * first) store)) ≡ 2 * count
+part-long s first count b width store e h = length-range store (b * s + 2 * first) width (omega arith) ∙ e

@@ -1,0 +1,46 @@
+-- What a right shape tells. Assumes nothing.
+use mathlib.Core.Path.{_≡_, refl, ap}
+use mathlib.Core.Bool.{Bool, true, false, cond, not, _||_}
+use Prim.Native.Nat.{ℕ, _+_, _*_, _%_, _≤_, _<_}
+use native.Mathlib.Nat.{mul-le-mul, mul-le-mul-right}
+use native.Mathlib.Omega.{arith}
+use borrow.Author.Tests.{ltb-false, eqb-false, eqb-true, not-false}
+use lib.Dec.{ltb, eqb}
+use Rattle.cauchy.specs.Calls.{wrongShape}
+
+pub or-false : (a b : Bool) → (a || b) ≡ false → (a ≡ false) × (b ≡ false)
+or-false true b e = absurd (let z : _≡_ {A = ℕ} 1 0 = ap (λ (t : Bool). cond t 1 0) e in omega arith)
+or-false false b e = (refl, e)
+
+pub record Right (n m s : ℕ) : Type 0 where
+  pub n-least : 1 ≤ n
+  pub n-most : n ≤ 1024
+  pub m-most : m ≤ 32
+  pub s-least : 2 ≤ s
+  pub s-most : s ≤ 4096
+  pub even : s % 2 ≡ 0
+
+pub right : (n m s : ℕ) → wrongShape n m s ≡ false → Right n m s
+unfolding wrongShape
+right n m s e =
+    let a = or-false _ (not (eqb (s % 2) 0)) e in
+    let b = or-false _ (ltb 4096 s) (a .0) in
+    let c = or-false _ (ltb s 2) (b .0) in
+    let d = or-false _ (ltb 32 m) (c .0) in
+    let f = or-false (eqb n 0) (ltb 1024 n) (d .0) in
+    let z : n ≡ 0 → ⊥ = eqb-false n 0 (f .0) in
+    record {
+      n-least = omega (arith, z);
+      n-most = ltb-false 1024 n (f .1);
+      m-most = ltb-false 32 m (d .1);
+      s-least = ltb-false s 2 (c .1);
+      s-most = ltb-false 4096 s (b .1);
+      even = eqb-true (s % 2) 0 (not-false (eqb (s % 2) 0) (a .1));
+    }
+
+-- block j of n lies in a store of n, which is small
+pub inside : (n s j : ℕ) → j < n → j * s + s ≤ n * s
+inside n s j h = omega (arith, mul-le-mul-right {m = j + 1} {n = n} s (omega arith))
+
+pub few : (n s : ℕ) → n ≤ 1056 → s ≤ 4096 → n * s ≤ 4325376
+few n s h k = mul-le-mul {n₁ = n} {m₁ = s} {n₂ = 1056} {m₂ = 4096} h k

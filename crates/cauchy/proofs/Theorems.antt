@@ -1,0 +1,10 @@
+-- All that is stated of the code. Assumes nothing.
+use Rattle.cauchy.specs.Theorems.{Theorems}
+use Rattle.cauchy.proofs.Known.{known, one, some, free}
+use Rattle.cauchy.proofs.BlindLaws.{blind}
+use Rattle.cauchy.proofs.UsedLaws.{used}
+use Rattle.cauchy.proofs.Decoded.{decodes, decodes-words}
+
+pub theorems : Theorems
+theorems =
+    record { known = known; one = one; blind = blind; used = used; some = some; free = free; decodes = decodes; decodes-words = decodes-words }

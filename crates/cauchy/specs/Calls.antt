@@ -1,0 +1,93 @@
+-- What each public call answers and leaves in lent memory (document 01, "The receiver and its house limits", "The code", "Marks,
+-- hand-out, prefix"); what that means is stated in specs/Theorems.antt. Assumes nothing: these are definitions.
+use mathlib.Core.Bool.{Bool, cond, not, _&&_, _||_}
+use mathlib.Core.List.{List, [], _∷_, _++_}
+use Prim.Native.Nat.{ℕ, zero, suc, _+_, _-_, _*_, _/_, _%_}
+use lib.ListN.{length, getD, drop, replicate}
+use lib.Dec.{ltb, leb, eqb}
+use Rattle.little.specs.Fields.{bytesOf}
+use Rattle.cauchy.specs.Code.{joined, recoveryBlock}
+use Rattle.cauchy.specs.Decode.{holding, missingData, foundWords, decode}
+use Rattle.cauchy.specs.declared.Answer.{Answer}
+
+-- a house limit is passed: n is 1 to 1,024, m at most 32, s even and 2 to 4,096
+unfoldable pub wrongShape : ℕ → ℕ → ℕ → Bool
+wrongShape n m s = eqb n 0 || ltb 1024 n || ltb 32 m || ltb s 2 || ltb 4096 s || not (eqb (s % 2) 0)
+
+-- ---- recovery
+
+-- what `recovery` leaves
+pub record Recovered : Type 0 where
+  pub out : List ℕ
+  pub answer : Answer
+
+-- block k is none of the m, or what is lent has another length
+unfoldable pub wrongLent : ℕ → ℕ → ℕ → ℕ → List ℕ → List ℕ → Bool
+wrongLent n m s k blocks out = not (ltb k m) || not (eqb (length blocks) (n * s)) || not (eqb (length out) s)
+
+unfoldable pub recoverySpec : ℕ → ℕ → ℕ → ℕ → List ℕ → List ℕ → Recovered
+recoverySpec n m s k blocks out =
+    cond (wrongShape n m s || wrongLent n m s k blocks out)
+    (record { out = out; answer = Answer.BadShape })
+    (record { out = recoveryBlock n m s blocks k; answer = Answer.Done })
+
+-- ---- rebuild
+
+-- the list of n numbers f c, f (c + 1) and so on
+unfoldable pub build : (ℕ → ℕ) → ℕ → ℕ → List ℕ
+build f c zero = []
+build f c (suc n) = f c ∷ build f (suc c) n
+
+-- byte h of a word, the low one first
+unfoldable pub byteOf : ℕ → ℕ → ℕ
+byteOf h x = getD (bytesOf 2 x) h 0
+
+-- byte q lies in one of the first e blocks, in one of the `count` words from `first` on
+unfoldable pub inRange : ℕ → ℕ → ℕ → ℕ → ℕ → Bool
+inRange s first count e q = ltb (q / s) e && (leb (2 * first) (q % s) && ltb (q % s) (2 * (first + count)))
+
+-- a store whose word w of block l is g l w, for the first e blocks and the `count` words from `first` on; each other byte is base's
+unfoldable pub filled : ℕ → ℕ → ℕ → ℕ → (ℕ → ℕ → ℕ) → List ℕ → List ℕ
+filled s first count e g base =
+    build (λ q. cond (inRange s first count e q) (byteOf (q % s % 2) (g (q / s) (q % s / 2))) (getD base q 0)) 0 (length base)
+
+-- what is lent has another length than the shape asks for, or the columns asked for do not all exist
+unfoldable pub wrongMemory : ℕ → ℕ → ℕ → ℕ → ℕ → ℕ → ℕ → ℕ → ℕ → Bool
+wrongMemory n m s marks store scratch numbers first count =
+    not (eqb marks (n + m)) || not (eqb store ((n + m) * s)) || not (eqb scratch (m * s)) || not (eqb numbers 1024) || ltb (s / 2) first || ltb (s / 2 - first) count
+
+-- what `rebuild` leaves
+pub record Rebuilt : Type 0 where
+  pub scratch : List ℕ
+  pub numbers : List ℕ
+  pub answer : Answer
+
+-- block l of scratch has, in the columns asked for, the words of the l-th missing data block
+unfoldable pub rebuiltScratch : ℕ → ℕ → ℕ → List ℕ → List ℕ → ℕ → ℕ → List ℕ → List ℕ
+rebuiltScratch n m s marks store first count scratch =
+    filled s first count (length (missingData n marks)) (λ l w. getD (foundWords n m s marks store w) l 0) scratch
+
+-- a refusal changes nothing; else the numbers, in which the equations were solved, are left as zeros
+unfoldable pub rebuildSpec : ℕ → ℕ → ℕ → List ℕ → List ℕ → List ℕ → List ℕ → ℕ → ℕ → Rebuilt
+rebuildSpec n m s marks store scratch numbers first count =
+    cond (wrongShape n m s || wrongMemory n m s (length marks) (length store) (length scratch) (length numbers) first count)
+    (record { scratch = scratch; numbers = numbers; answer = Answer.BadShape })
+    (cond (ltb (holding marks) n)
+    (record { scratch = scratch; numbers = numbers; answer = Answer.TooFew })
+    (record { scratch = rebuiltScratch n m s marks store first count scratch; numbers = replicate 1024 0; answer = Answer.Done }))
+
+-- ---- rebuild_all
+
+-- the missing data blocks, rising; behind them scratch is as it was
+unfoldable pub decodedScratch : ℕ → ℕ → ℕ → List ℕ → List ℕ → List ℕ → List ℕ
+decodedScratch n m s marks store scratch =
+    joined (λ l. decode n m s marks store (getD (missingData n marks) l 0)) 0 (length (missingData n marks))
+    ++ drop (length (missingData n marks) * s) scratch
+
+unfoldable pub rebuildAllSpec : ℕ → ℕ → ℕ → List ℕ → List ℕ → List ℕ → List ℕ → Rebuilt
+rebuildAllSpec n m s marks store scratch numbers =
+    cond (wrongShape n m s || wrongMemory n m s (length marks) (length store) (length scratch) (length numbers) 0 (s / 2))
+    (record { scratch = scratch; numbers = numbers; answer = Answer.BadShape })
+    (cond (ltb (holding marks) n)
+    (record { scratch = scratch; numbers = numbers; answer = Answer.TooFew })
+    (record { scratch = decodedScratch n m s marks store scratch; numbers = replicate 1024 0; answer = Answer.Done }))

@@ -1,0 +1,15 @@
+-- `cauchy_recovery` hands on what `recovery` promises.
+use mathlib.Core.Path.{ap, _∙_}
+use borrow.Author.Needs.{needs}
+use Rattle.cauchy.specs.Calls.{Recovered}
+use Rattle.cauchy_native.specs.Number.{numberOf}
+use Rattle.cauchy_native.proofs.cauchy_recovery.Statement.{statement}
+use Rattle.cauchy_native.proofs.cauchy_recovery.Tie as tie
+
+returns : tie.Need-returns
+returns c =
+    let e = c .before .before .before .recovery .ensures in
+    (c .number .ensures ∙ ap (λ (r : Recovered). numberOf (r .answer)) e, ap (λ (r : Recovered). r .out) e)
+
+pub cauchy-recovery-spec : {M : Type 1} → statement M
+cauchy-recovery-spec = tie.close (tie.spec (λ c κs. search needs) (λ c κs. search needs) (λ c. search needs) returns)

@@ -1,0 +1,35 @@
+-- `mark_by_mask` is safe and ends. Assumes nothing.
+use mathlib.Core.Path.{_≡_}
+use Prim.Native.Nat.{_≤_, _-_}
+use native.Mathlib.Omega.{arith}
+use lib.ListN.{length, length-set}
+use borrow.Author.Needs.{needs}
+use Rattle.cauchy_vectors.proofs.fillers.mark_by_mask.Statement.{statement}
+use Rattle.cauchy_vectors.proofs.fillers.mark_by_mask.Tie as tie
+
+abbrev Inv-loop : tie.InvT-loop
+Inv-loop marks₀ mask rest₀ i₀ marks rest i = (i ≤ length marks) × (length marks ≡ length marks₀)
+
+abbrev μ-loop : tie.MeasureT-loop
+μ-loop marks₀ mask rest₀ i₀ marks rest i = length marks - i
+
+loop-less : tie.Need-loop-less Inv-loop μ-loop
+loop-less c = simp length-set (omega arith)
+
+loop-again : tie.Need-loop-again Inv-loop μ-loop
+loop-again c = simp length-set (omega arith)
+
+pub mark-by-mask-spec : {M : Type 1} → statement M
+mark-by-mask-spec =
+    tie.close
+    (tie.spec
+    Inv-loop
+    μ-loop
+    (λ c. search needs)
+    (λ c κs. search needs)
+    (λ c. search needs)
+    (λ c. search needs)
+    loop-less
+    loop-again
+    (λ c. search needs)
+    (λ c. search needs))

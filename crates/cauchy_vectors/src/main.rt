@@ -1,0 +1,15 @@
+// Prints what the code answers, for comparison with the second program: every set of indices withheld from small codes, codes
+// at the limits, ranges of columns, and shapes that are refused. Lent memory is dirty, and garbage lies where nothing is held.
+mod fillers;
+mod runs;
+mod shapes;
+
+fn main() {
+    runs::three_and_two();
+    runs::small_codes();
+    runs::full_code();
+    runs::wide_code();
+    runs::column_ranges();
+    shapes::recoveries();
+    shapes::rebuilds();
+}
