@@ -1,11 +1,17 @@
-//! The second program: prints what the proved programs print, computed in another way, for the gate to compare.
+//! The second program: prints what the proved programs print, computed in another way, for the gate to compare; and writes
+//! the cases that some of them are run on.
 mod blake3;
 mod code;
 mod code_vectors;
+mod container;
 mod field;
 mod field_vectors;
+mod probe;
+mod probe_cases;
+mod session;
 
-const USAGE: &str = "usage: second PROGRAM, where PROGRAM is gf16_vectors, blake3_vectors or cauchy_vectors;
+const USAGE: &str = "usage: second PROGRAM, where PROGRAM is gf16_vectors, blake3_vectors, cauchy_vectors or sfc_probe;
+       second cases sfc_probe, for the input that the probe is run on;
        second hash LENGTH, for the BLAKE3 hash of so many bytes i mod 251";
 
 fn main() {
@@ -15,6 +21,8 @@ fn main() {
         ["gf16_vectors"] => field_vectors::print(),
         ["blake3_vectors"] => blake3::print_vectors(),
         ["cauchy_vectors"] => code_vectors::print(),
+        ["sfc_probe"] => probe::print(),
+        ["cases", "sfc_probe"] => probe_cases::write(),
         ["hash", length] => {
             let length = length.parse().expect("LENGTH is a number");
             println!("{}", blake3::hex(&blake3::hash(&blake3::pattern(length))));

@@ -4,6 +4,7 @@ use mathlib.Core.Path.{_≡_, refl, sym, ap, _∙_}
 use mathlib.Core.Bool.{true, false}
 use Prim.Native.Nat.{ℕ, zero, suc, _+_, _-_, _*_, _/_, _%_, _^_, _<_, _≤_}
 use native.Mathlib.Omega.{arith}
+use native.Mathlib.Nat.{add-zero}
 use borrow.Author.Tests.{eqb-true, eqb-false, le-ltb}
 use lib.Dec.{eqb, eqb·suc-zero}
 use lib.ListN.{set, length, take, drop, replicate, length-set, length-drop, length-append, length-replicate}
@@ -14,7 +15,7 @@ use Rattle.little.proofs.PartLaws.{length-put, part-put, part-put-apart}
 use mathlib.Core.Logic.{inl}
 use Rattle.blake3.specs.Compress.{compressed, folded}
 use Rattle.blake3.specs.Tree.{piece, parent, tree, hash}
-use Rattle.blake3.specs.Running.{mostFed, slot, pushed, rootFlag, joinedAt, closed, isFull, settled, withByte, withBytes, fresh, fedWith, piecesDone, ending, finished, fedAll, AllTaken, joined, RunningAnyCut}
+use Rattle.blake3.specs.Running.{mostFed, slot, pushed, rootFlag, joinedAt, closed, isFull, settled, withByte, withBytes, fresh, fedWith, piecesDone, ending, finished, fedAll, AllTaken, joined, RunningAnyCut, FedBytes}
 use Rattle.blake3.specs.declared.running.Running.{Running}
 use Rattle.blake3.specs.declared.running.Fed.{Fed}
 use Rattle.blake3.specs.declared.running.Finished.{Finished}
@@ -331,6 +332,19 @@ finish-holds r xs le w =
     = closed-tree 30 0 t t (r .stack) xs _ refl (λ k. omega arith) (omega arith) (ap (λ (l : List ℕ). piece t (rootFlag t) l) (w .last)) (w .before)
     ∙ height-tree 30 0 8 xs (omega arith) in
     rw (le-ltb mostFed (r .fed) le′, e)
+
+with-count : (xs : List ℕ) (r : Running) → withBytes r xs .fed ≡ r .fed + length xs
+unfolding withBytes withByte
+with-count [] r = sym (add-zero (r .fed))
+with-count (x ∷ xs) r =
+    let e : r .fed + 1 + length xs ≡ r .fed + suc (length xs) = omega arith in
+    with-count xs (withByte r x) ∙ e
+
+pub fed-bytes : (xs : List ℕ) → FedBytes xs
+fed-bytes xs = record {
+  count = with-count xs;
+  ends = λ le. finish-holds (withBytes fresh xs) xs le (bytes-hold xs fresh [] (omega arith) holds-fresh);
+}
 
 -- parts fed one after the other
 all-taken : (ps : List (List ℕ)) (r : Running) (xs : List ℕ) → length xs + length (joined ps) ≤ mostFed → Holds r xs

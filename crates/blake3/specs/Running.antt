@@ -1,5 +1,5 @@
 -- The running hash (document 01, "BLAKE3, unkeyed" and number 72): what feeding and finishing make of any record, a forged
--- one too. Assumes nothing: these are definitions, and the statements of two theorems.
+-- one too. Assumes nothing: these are definitions, and the statements of three theorems.
 use mathlib.Core.Path.{_≡_}
 use mathlib.Core.Bool.{Bool, cond, not, _&&_}
 use Prim.Native.Nat.{ℕ, zero, suc, _+_, _-_, _*_, _/_, _%_, _^_, _<_, _≤_}
@@ -117,6 +117,12 @@ pub record Refusals (r : Running) (xs : List ℕ) : Type 0 where
   pub feed-leaves : mostFed < r .fed + length xs → fedWith r xs .state ≡ r
   pub finish-number : answerNumber (finished r .answer) ≡ cond (ltb mostFed (r .fed)) 72 0
   pub finish-zeros : mostFed < r .fed → finished r .hash ≡ replicate 32 0
+
+-- For a loop that feeds: a record that was fed xs has that many bytes more, and a fresh one ends with the hash of xs. Proved in
+-- proofs/AnyCut.antt
+pub record FedBytes (xs : List ℕ) : Type 0 where
+  pub count : (r : Running) → withBytes r xs .fed ≡ r .fed + length xs
+  pub ends : length xs ≤ mostFed → finished (withBytes fresh xs) ≡ record { answer = Done; hash = hash xs }
 
 -- parts fed one after the other, and that none of them is refused
 unfoldable pub fedAll : Running → List (List ℕ) → Running

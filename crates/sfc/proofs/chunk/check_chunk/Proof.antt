@@ -1,0 +1,34 @@
+-- `sfc::chunk::check_chunk` meets its contract: the verdict of all checks, and for a whole chunk its index. Assumes nothing.
+use mathlib.Core.Path.{_≡_, sym, _∙_}
+use Rattle.sfc.specs.Chunk.{chunkChecks, checkChunk, number, place, indexOf}
+use Rattle.sfc.specs.declared.chunk.ChunkChecked.the-variants.{Whole, Refused}
+use Rattle.sfc.proofs.CheckLaws.{good-all, refused-all}
+use borrow.Author.Needs.{needs}
+use Rattle.sfc.proofs.chunk.check_chunk.Statement.{statement}
+use Rattle.sfc.proofs.chunk.check_chunk.Tie as tie
+
+returns : tie.Need-returns
+unfolding checkChunk
+returns c =
+    let a = c .before .before .before .before .before .args in
+    sym (refused-all Refused (chunkChecks (a .h) (a .c .now)) (Whole (number (indexOf (a .c .now))) (place 48)) _
+    (sym (c .before .before .before .check-all .ensures) ∙ c .before .verdict .given .1))
+
+returns-2 : tie.Need-returns-2
+unfolding checkChunk
+returns-2 c =
+    let a = c .before .before .before .before .before .args in
+    rw (c .read32 .ensures)
+    (sym (good-all Refused (chunkChecks (a .h) (a .c .now)) (Whole (number (indexOf (a .c .now))) (place 48))
+    (sym (c .before .before .before .check-all .ensures) ∙ c .before .enum-told .given .1)))
+
+pub check-chunk-spec : {M : Type 1} → statement M
+check-chunk-spec =
+    tie.close
+    (tie.spec
+    (λ c κs. search needs)
+    (λ c. search needs)
+    (λ c. search needs)
+    (λ c κs. search needs)
+    returns
+    returns-2)

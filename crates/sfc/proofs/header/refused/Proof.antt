@@ -1,0 +1,11 @@
+-- `sfc::header::refused` meets its contract: a blank head beside the reason. Assumes nothing.
+use mathlib.Core.Path.{_≡_}
+use borrow.Author.Needs.{needs}
+use Rattle.sfc.proofs.header.refused.Statement.{statement}
+use Rattle.sfc.proofs.header.refused.Tie as tie
+
+returns : tie.Need-returns
+returns c = simp (c .blank-head .ensures)
+
+pub refused-spec : {M : Type 1} → statement M
+refused-spec = tie.close (tie.spec (λ c κs. search needs) returns)

@@ -1,0 +1,13 @@
+-- `sfc::limits::is_above_house` computes its definition. Assumes nothing.
+use mathlib.Core.Path.{refl}
+use Rattle.sfc.specs.Limits.{aboveHouse}
+use borrow.Author.Needs.{needs}
+use Rattle.sfc.proofs.limits.is_above_house.Statement.{statement}
+use Rattle.sfc.proofs.limits.is_above_house.Tie as tie
+
+returns : tie.Need-returns
+unfolding aboveHouse
+returns c = refl
+
+pub is-above-house-spec : {M : Type 1} → statement M
+is-above-house-spec = tie.close (tie.spec returns)

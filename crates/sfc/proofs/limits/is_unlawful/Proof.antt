@@ -1,0 +1,17 @@
+-- `sfc::limits::is_unlawful` meets its contract; blocks of no bytes are unlawful at once. Assumes nothing.
+use mathlib.Core.Path.{refl}
+use Rattle.sfc.specs.Limits.{unlawful}
+use Rattle.sfc.proofs.LimitLaws.{empty-unlawful}
+use borrow.Author.Needs.{needs}
+use Rattle.sfc.proofs.limits.is_unlawful.Statement.{statement}
+use Rattle.sfc.proofs.limits.is_unlawful.Tie as tie
+
+returns : tie.Need-returns
+returns c = let a = c .before .args in empty-unlawful (a .size) (a .n) (a .m) (a .s) (c .if1 .taken)
+
+returns-2 : tie.Need-returns-2
+unfolding unlawful
+returns-2 c = simp (c .wanted-blocks .ensures)
+
+pub is-unlawful-spec : {M : Type 1} → statement M
+is-unlawful-spec = tie.close (tie.spec returns (λ c. search needs) (λ c κs. search needs) returns-2)

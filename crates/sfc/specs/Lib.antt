@@ -1,0 +1,17 @@
+pub mod Bytes
+pub mod Numbers
+pub mod Limits
+pub mod Extension
+pub mod Header
+pub mod Chunk
+pub mod Lookup
+pub mod Tallies
+pub mod Marks
+pub mod Session
+pub mod Steps
+pub mod History
+pub mod SessionTheorems
+pub mod Prefix
+pub mod Missing
+pub mod Note
+pub mod NoteTheorems

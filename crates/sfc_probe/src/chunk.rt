@@ -1,0 +1,89 @@
+// Frames that check a part of the file as a chunk.
+use crate::edit;
+use crate::frame;
+use crate::frame::Frame;
+use crate::print;
+use crate::run::Run;
+use sfc::chunk::ChunkChecked;
+use sfc::chunk::check_chunk;
+use sfc::header::Head;
+use sfc::reason::number_of;
+
+// The number of the refusal, and 0 for a whole chunk.
+fn answer(head: Head, chunk: &[u8]) -> u8 {
+    let checked = check_chunk(head, chunk);
+    match checked {
+        ChunkChecked::Refused(reason) => number_of(reason),
+        ChunkChecked::Whole(_, _) => 0,
+    }
+}
+
+fn check(head: Head, chunk: &[u8]) {
+    let checked = check_chunk(head, chunk);
+    match checked {
+        ChunkChecked::Refused(reason) => print::decimal(number_of(reason) as u64),
+        ChunkChecked::Whole(index, place) => {
+            print::field(b"whole ", index.0 as u64);
+            print::field(b" ", place.0 as u64);
+        }
+    }
+    print::line_end();
+}
+
+// The answer with one byte changed, and the chunk sealed if that is asked for.
+fn changed_answer(head: Head, chunk: &mut [u8], at: usize, mask: u8, sealed: bool) -> u8 {
+    let old = little::byte_at(chunk, at);
+    edit::set_byte(chunk, at, old ^ mask);
+    if !sealed {
+        return answer(head, chunk);
+    }
+    edit::seal_chunk(chunk);
+    answer(head, chunk)
+}
+
+fn sweep_bytes(head: Head, chunk: &mut [u8], mask: u8, sealed: bool) {
+    let mut before = io::large_buffer();
+    edit::copy(chunk, &mut before);
+    let end = chunk.len();
+    let mut run = Run::new();
+    let mut at = 0;
+    while at < end {
+        let answer = changed_answer(head, chunk, at, mask, sealed);
+        edit::copy(&before, chunk);
+        let next = run.take(at as u64, answer);
+        run = next;
+        at += 1;
+    }
+    run.end(end as u64);
+}
+
+fn prefix_answer(head: Head, chunk: &[u8], length: usize) -> u8 {
+    let end = edit::within(length, chunk);
+    answer(head, &chunk[..end])
+}
+
+fn sweep_lengths(head: Head, chunk: &[u8]) {
+    let mut run = Run::new();
+    let mut length = 0;
+    while length < chunk.len() {
+        let next = run.take(length as u64, prefix_answer(head, chunk, length));
+        run = next;
+        length += 1;
+    }
+    run.end(length as u64);
+}
+
+pub(crate) fn ask(frame: Frame, head: Head, file: &mut [u8]) {
+    let start = edit::within(frame.a as usize, file);
+    let rest = &mut file[start..];
+    let end = edit::within(frame.b as usize, rest);
+    let chunk = &mut rest[..end];
+    let opcode = frame.opcode;
+    match opcode {
+        frame::CHECK_CHUNK => check(head, chunk),
+        frame::CHUNK_BYTES => sweep_bytes(head, chunk, frame.small, false),
+        frame::CHUNK_BYTES_SEALED => sweep_bytes(head, chunk, frame.small, true),
+        frame::CHUNK_LENGTHS => sweep_lengths(head, chunk),
+        _ => {}
+    }
+}

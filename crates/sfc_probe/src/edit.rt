@@ -1,0 +1,131 @@
+// Frames that load, keep, cut and change the file.
+use crate::frame;
+use crate::frame::Frame;
+use libc::STDIN_FILENO;
+ghost use Prim.Native.Nat.{_≤_};
+ghost use mathlib.Core.Path.{_≡_};
+ghost use lib.ListN.{length};
+ghost use Rattle.io.specs.Counts.{Counts};
+
+// How many bytes of the two buffers are the file and the kept file.
+pub(crate) struct Sizes {
+    pub(crate) file: usize,
+    pub(crate) kept: usize,
+}
+
+pub(crate) fn least(a: usize, b: usize) -> usize
+    ensures { λ r. ⌜ (r ≤ a) × (r ≤ b) ⌝ }
+{
+    if a < b { a } else { b }
+}
+
+// How many of the first n bytes a slice has. It takes the slice, so that its contract can speak of it.
+pub(crate) fn within(n: usize, s: &[u8]) -> usize
+    ensures { λ r. ⌜ Counts r (now (s .entry)) ⌝ }
+{
+    least(n, s.len())
+}
+
+// Copies as many bytes as the shorter has.
+pub(crate) fn copy(src: &[u8], dst: &mut [u8]) {
+    let end = least(src.len(), dst.len());
+    let mut i = 0;
+    while i < end {
+        dst[i] = src[i];
+        i += 1;
+    }
+}
+
+// Reads up to `count` bytes of input to the front of the buffer, as far as it goes, and answers how many.
+pub(crate) fn fill(count: usize, buffer: &mut [u8]) -> usize
+    ensures { λ r. ⌜ Counts r (now (buffer .exit)) ⌝ }
+{
+    let end = within(count, buffer);
+    io::read_full(STDIN_FILENO, &mut buffer[..end])
+}
+
+fn load(count: usize, file: &mut [u8], kept: &mut [u8]) -> Sizes {
+    let got = fill(count, file);
+    copy(file, kept);
+    Sizes {
+        file: got,
+        kept: got,
+    }
+}
+
+// Frames that change how long the file is.
+pub(crate) fn resize(frame: Frame, sizes: Sizes, file: &mut [u8], kept: &mut [u8]) -> Sizes {
+    let opcode = frame.opcode;
+    match opcode {
+        frame::LOAD => load(frame.a as usize, file, kept),
+        frame::KEEP => {
+            copy(file, kept);
+            Sizes {
+                file: sizes.file,
+                kept: sizes.file,
+            }
+        }
+        frame::RESTORE => {
+            copy(kept, file);
+            Sizes {
+                file: sizes.kept,
+                kept: sizes.kept,
+            }
+        }
+        frame::CUT => Sizes {
+            file: least(frame.a as usize, sizes.file),
+            kept: sizes.kept,
+        },
+        _ => sizes,
+    }
+}
+
+pub(crate) fn set_byte(file: &mut [u8], at: usize, value: u8) {
+    if at < file.len() {
+        file[at] = value;
+    }
+}
+
+// Puts the hash of the header region into the trailer, where the file has room for both.
+pub(crate) fn seal_header(file: &mut [u8]) {
+    let length = little::read32(file, 8) as usize;
+    if file.len() < length + 76 {
+        return;
+    }
+    let end = 12 + length;
+    let hash = blake3::hash(&file[8..end]);
+    let at = file.len() - 56;
+    copy(&hash, &mut file[at..]);
+}
+
+// Puts the hash of the chunk at the front into its trailer, where all of it is there.
+pub(crate) fn seal_chunk(chunk: &mut [u8]) {
+    let length = little::read32(chunk, 28) as usize;
+    if chunk.len() < 84 + length {
+        return;
+    }
+    let end = within(48 + length, chunk);
+    let hash = blake3::hash(&chunk[..end]);
+    copy(&hash, &mut chunk[end..]);
+}
+
+// Frames that change bytes of the file.
+pub(crate) fn change(frame: Frame, file: &mut [u8]) {
+    let opcode = frame.opcode;
+    let at = frame.a as usize;
+    match opcode {
+        frame::SET_BYTE => set_byte(file, at, frame.small),
+        frame::SET_16 => {
+            little::write16(file, at, (frame.b % 65536) as u16);
+        }
+        frame::SET_32 => {
+            little::write32(file, at, frame.b);
+        }
+        frame::SEAL_HEADER => seal_header(file),
+        frame::SEAL_CHUNK => {
+            let start = within(at, file);
+            seal_chunk(&mut file[start..]);
+        }
+        _ => {}
+    }
+}

@@ -1,0 +1,95 @@
+// The frames: an opcode, a small number (one byte each), and two 32-bit numbers a and b, little-endian; behind some of them a
+// bytes of data. A number that is out of range asks for as much as there is.
+use crate::print;
+use libc::STDIN_FILENO;
+
+// No more input.
+pub(crate) const END: u8 = 0;
+// Print a bytes of data as a line.
+pub(crate) const SAY: u8 = 1;
+
+// The file becomes the a bytes of data, and is kept.
+pub(crate) const LOAD: u8 = 10;
+// The file is kept as it is; the file becomes what was kept.
+pub(crate) const KEEP: u8 = 11;
+
+pub(crate) const RESTORE: u8 = 12;
+// The file is cut to its first a bytes.
+pub(crate) const CUT: u8 = 13;
+
+// Byte a becomes the small number; the two or four bytes from a on become the number b.
+pub(crate) const SET_BYTE: u8 = 20;
+
+pub(crate) const SET_16: u8 = 21;
+
+pub(crate) const SET_32: u8 = 22;
+// The right hash is put into the file's trailer; into the trailer of the chunk at a.
+pub(crate) const SEAL_HEADER: u8 = 23;
+
+pub(crate) const SEAL_CHUNK: u8 = 24;
+
+// The file's header is read, and an accepted one kept for the chunks.
+pub(crate) const READ_HEADER: u8 = 30;
+// The same for each place from a up to b, with that byte changed by exclusive or with the small number; the same with the
+// trailer sealed after the change; the same for each length from a up to b.
+pub(crate) const HEADER_BYTES: u8 = 31;
+
+pub(crate) const HEADER_BYTES_SEALED: u8 = 32;
+
+pub(crate) const HEADER_LENGTHS: u8 = 33;
+// The extension field with tag a is looked up.
+pub(crate) const FIND_FIELD: u8 = 34;
+
+// The b bytes at a are checked as a chunk.
+pub(crate) const CHECK_CHUNK: u8 = 40;
+// The same for each place in them, with that byte changed; the same with the chunk sealed after the change; the same for
+// each shorter length.
+pub(crate) const CHUNK_BYTES: u8 = 41;
+
+pub(crate) const CHUNK_BYTES_SEALED: u8 = 42;
+
+pub(crate) const CHUNK_LENGTHS: u8 = 43;
+
+// A session begins with a store of a zeros and b marks of 0, but for the first, which is the small number.
+pub(crate) const BEGIN: u8 = 50;
+// Tally a (fresh, repeat, then the refusals from 30 on) becomes b.
+pub(crate) const SET_TALLY: u8 = 51;
+// The b bytes at a are offered.
+pub(crate) const OFFER: u8 = 52;
+// Marks, store and tallies are shown.
+pub(crate) const SHOW: u8 = 53;
+
+pub(crate) struct Frame {
+    pub(crate) opcode: u8,
+    pub(crate) small: u8,
+    pub(crate) a: u32,
+    pub(crate) b: u32,
+}
+
+// The next frame of the input; one that is not all there is the end.
+pub(crate) fn next() -> Frame {
+    let mut bytes = [0u8; 10];
+    let got = io::read_full(STDIN_FILENO, &mut bytes);
+    if got < 10 {
+        return Frame {
+            opcode: END,
+            small: 0,
+            a: 0,
+            b: 0,
+        };
+    }
+    Frame {
+        opcode: little::byte_at(&bytes, 0),
+        small: little::byte_at(&bytes, 1),
+        a: little::read32(&bytes, 2),
+        b: little::read32(&bytes, 6),
+    }
+}
+
+// Prints that many bytes of the input, as far as they go and the buffer, and a line end.
+pub(crate) fn say(count: usize) {
+    let mut text = io::buffer();
+    let got = crate::edit::fill(count, &mut text);
+    io::write_all(libc::STDOUT_FILENO, &text[..got]);
+    print::line_end();
+}

@@ -1,0 +1,118 @@
+// Drives the public calls of sfc by frames from standard input, and prints a line for each answer, for comparison with the
+// second program. The frames are listed in frame.rt.
+mod chunk;
+mod edit;
+mod frame;
+mod header;
+mod print;
+mod run;
+mod session;
+
+use edit::Sizes;
+use frame::Frame;
+use session::Session;
+use sfc::header::Head;
+
+// Frames that ask; the answer is the head that later chunks are held to.
+fn ask(frame: Frame, head: Head, file: &mut [u8]) -> Head {
+    let opcode = frame.opcode;
+    match opcode {
+        frame::SAY => {
+            frame::say(frame.a as usize);
+            head
+        }
+        frame::READ_HEADER => header::read(head, file),
+        frame::FIND_FIELD => {
+            header::find(file, (frame.a % 65536) as u16);
+            head
+        }
+        frame::HEADER_BYTES | frame::HEADER_BYTES_SEALED | frame::HEADER_LENGTHS => {
+            header::sweep(frame, file);
+            head
+        }
+        _ => {
+            chunk::ask(frame, head, file);
+            head
+        }
+    }
+}
+
+// What is remembered from frame to frame, beside the buffers.
+struct State {
+    sizes: Sizes,
+    head: Head,
+    session: Session,
+}
+
+fn start() -> State {
+    State {
+        sizes: Sizes { file: 0, kept: 0 },
+        head: header::none(),
+        session: session::none(),
+    }
+}
+
+// A frame on the file as long as it now is.
+fn serve(frame: Frame, head: Head, file: &mut [u8]) -> Head {
+    edit::change(frame, file);
+    ask(frame, head, file)
+}
+
+fn serve_session(
+    frame: Frame,
+    head: Head,
+    session: Session,
+    store: &mut [u8],
+    marks: &mut [u8],
+    file: &[u8],
+    end: usize,
+) -> Session {
+    let length = edit::within(end, file);
+    session::serve(frame, head, session, store, marks, &file[..length])
+}
+
+// One frame. An opcode belongs to one of the kinds, and the others let it pass.
+fn step(
+    frame: Frame,
+    state: State,
+    file: &mut [u8],
+    kept: &mut [u8],
+    store: &mut [u8],
+    marks: &mut [u8],
+) -> State {
+    let sizes_before = state.sizes;
+    let head_before = state.head;
+    let session_before = state.session;
+    let sizes = edit::resize(frame, sizes_before, file, kept);
+    let end = edit::within(sizes.file, file);
+    let head = serve(frame, head_before, &mut file[..end]);
+    let session = serve_session(frame, head, session_before, store, marks, file, end);
+    State {
+        sizes,
+        head,
+        session,
+    }
+}
+
+// A proved loop has to end, and nothing says that the input does: the turns count down from a number that no run uses up.
+fn interpret(file: &mut [u8], kept: &mut [u8], store: &mut [u8], marks: &mut [u8]) {
+    let mut state = start();
+    let mut turns = u64::MAX;
+    while 0 < turns {
+        let frame = frame::next();
+        if frame.opcode == frame::END {
+            return;
+        }
+        let next = step(frame, state, file, kept, store, marks);
+        state = next;
+        turns -= 1;
+    }
+}
+
+fn main() {
+    let mut file = io::large_buffer();
+    let mut kept = io::large_buffer();
+    let mut store = io::large_buffer();
+    let mut marks = io::buffer();
+    interpret(&mut file, &mut kept, &mut store, &mut marks);
+}

@@ -1,0 +1,34 @@
+// What the answers are printed with.
+use libc::STDOUT_FILENO;
+
+pub(crate) fn text(t: &[u8]) {
+    io::write_all(STDOUT_FILENO, t);
+}
+
+pub(crate) fn line_end() {
+    text(b"\n");
+}
+
+pub(crate) fn decimal(n: u64) {
+    io::print_decimal(STDOUT_FILENO, n);
+}
+
+fn two_digits(byte: u8) {
+    io::print_hex(STDOUT_FILENO, byte as u64, 2);
+}
+
+// A label and each byte as two digits.
+pub(crate) fn bytes(label: &[u8], b: &[u8]) {
+    text(label);
+    let mut i = 0;
+    while i < b.len() {
+        two_digits(b[i]);
+        i += 1;
+    }
+}
+
+// A label and a number.
+pub(crate) fn field(label: &[u8], n: u64) {
+    text(label);
+    decimal(n);
+}

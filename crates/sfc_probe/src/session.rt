@@ -1,0 +1,192 @@
+// Frames that drive a session.
+use crate::edit;
+use crate::frame;
+use crate::frame::Frame;
+use crate::print;
+use sfc::header::Head;
+use sfc::reason::number_of;
+use sfc::session::Verdict;
+use sfc::session::offer;
+use sfc::tallies::Tallies;
+
+// How many bytes of the two buffers are store and marks, and the tallies.
+pub(crate) struct Session {
+    store: usize,
+    marks: usize,
+    tallies: Tallies,
+}
+
+pub(crate) fn none() -> Session {
+    Session {
+        store: 0,
+        marks: 0,
+        tallies: Tallies::new(),
+    }
+}
+
+fn clear(b: &mut [u8]) {
+    let mut i = 0;
+    while i < b.len() {
+        b[i] = 0;
+        i += 1;
+    }
+}
+
+fn begin(frame: Frame, store: &mut [u8], marks: &mut [u8]) -> Session {
+    clear(store);
+    clear(marks);
+    edit::set_byte(marks, 0, frame.small);
+    Session {
+        store: edit::least(frame.a as usize, store.len()),
+        marks: edit::least(frame.b as usize, marks.len()),
+        tallies: Tallies::new(),
+    }
+}
+
+fn with_refusals(t: Tallies, at: usize, count: u32) -> Tallies {
+    let mut next = t;
+    if at < 13 {
+        next.refused[at] = count;
+    }
+    next
+}
+
+fn with_tally(t: Tallies, at: u32, count: u32) -> Tallies {
+    let refused = t.refused;
+    match at {
+        0 => Tallies {
+            fresh: count,
+            repeat: t.repeat,
+            refused,
+        },
+        1 => Tallies {
+            fresh: t.fresh,
+            repeat: count,
+            refused,
+        },
+        _ => with_refusals(t, at as usize - 2, count),
+    }
+}
+
+fn print_verdict(verdict: Verdict) {
+    match verdict {
+        Verdict::Fresh(index, place) => {
+            print::field(b"fresh ", index.0 as u64);
+            print::field(b" ", place.0 as u64);
+        }
+        Verdict::Repeat(index, place) => {
+            print::field(b"repeat ", index.0 as u64);
+            print::field(b" ", place.0 as u64);
+        }
+        Verdict::Refused(reason) => print::decimal(number_of(reason) as u64),
+    }
+    print::line_end();
+}
+
+// Offers, prints the verdict, and answers the new tallies.
+fn offer_chunk(
+    head: Head,
+    tallies: Tallies,
+    store: &mut [u8],
+    marks: &mut [u8],
+    chunk: &[u8],
+) -> Tallies {
+    let answer = offer(head, tallies, store, marks, chunk);
+    let verdict = answer.verdict;
+    print_verdict(verdict);
+    answer.tallies
+}
+
+// The part of the file that a frame names.
+fn offer_part(
+    frame: Frame,
+    head: Head,
+    tallies: Tallies,
+    store: &mut [u8],
+    marks: &mut [u8],
+    file: &[u8],
+) -> Tallies {
+    let start = edit::within(frame.a as usize, file);
+    let rest = &file[start..];
+    let end = edit::within(frame.b as usize, rest);
+    offer_chunk(head, tallies, store, marks, &rest[..end])
+}
+
+fn print_count(count: u32) {
+    print::field(b" ", count as u64);
+}
+
+fn print_refusals(refused: [u32; 13]) {
+    let mut left: usize = 13;
+    while 0 < left {
+        print_count(refused[13 - left]);
+        left -= 1;
+    }
+    print::line_end();
+}
+
+fn print_tallies(t: Tallies) {
+    let refused = t.refused;
+    print::text(b"tallies");
+    print_count(t.fresh);
+    print_count(t.repeat);
+    print_refusals(refused);
+}
+
+fn show(tallies: Tallies, store: &[u8], marks: &[u8]) {
+    let hash = blake3::hash(store);
+    print::bytes(b"marks ", marks);
+    print::line_end();
+    print::bytes(b"store ", &hash);
+    print::line_end();
+    print_tallies(tallies);
+}
+
+// A frame on store and marks as long as they are lent.
+fn serve_lent(
+    frame: Frame,
+    head: Head,
+    tallies: Tallies,
+    store: &mut [u8],
+    marks: &mut [u8],
+    file: &[u8],
+) -> Tallies {
+    let opcode = frame.opcode;
+    match opcode {
+        frame::SET_TALLY => with_tally(tallies, frame.a, frame.b),
+        frame::OFFER => offer_part(frame, head, tallies, store, marks, file),
+        frame::SHOW => {
+            show(tallies, store, marks);
+            tallies
+        }
+        _ => tallies,
+    }
+}
+
+pub(crate) fn serve(
+    frame: Frame,
+    head: Head,
+    session: Session,
+    store: &mut [u8],
+    marks: &mut [u8],
+    file: &[u8],
+) -> Session {
+    if frame.opcode == frame::BEGIN {
+        return begin(frame, store, marks);
+    }
+    let tallies = session.tallies;
+    let store_end = edit::within(session.store, store);
+    let marks_end = edit::within(session.marks, marks);
+    Session {
+        store: session.store,
+        marks: session.marks,
+        tallies: serve_lent(
+            frame,
+            head,
+            tallies,
+            &mut store[..store_end],
+            &mut marks[..marks_end],
+            file,
+        ),
+    }
+}

@@ -1,0 +1,311 @@
+//! The container as the paper has it, for comparison: a text is taken apart from its front, field by field, and whole files
+//! are laid together for test material.
+use crate::blake3::hash;
+use crate::field::{inverse, mul};
+use std::collections::BTreeSet;
+
+/// What an accepted header says. The name is cut before its first zero.
+#[derive(Default)]
+pub struct Head {
+    pub header_length: u64,
+    pub uuid: Vec<u8>,
+    pub size: u64,
+    pub format: u64,
+    pub name: Vec<u8>,
+    pub hash: Vec<u8>,
+    pub n: u64,
+    pub m: u64,
+    pub s: u64,
+    pub erasure: u64,
+    pub compression: u64,
+    pub flags: u64,
+    pub priorities: u64,
+}
+
+/// What is left of a text that is read from its front.
+struct Rest<'a>(&'a [u8]);
+
+impl<'a> Rest<'a> {
+    fn bytes(&mut self, count: u64) -> Option<&'a [u8]> {
+        if (self.0.len() as u64) < count {
+            return None;
+        }
+        let (front, rest) = self.0.split_at(count as usize);
+        self.0 = rest;
+        Some(front)
+    }
+
+    fn number(&mut self, width: u64) -> Option<u64> {
+        let bytes = self.bytes(width)?;
+        Some(bytes.iter().rev().fold(0, |high, &byte| high << 8 | u64::from(byte)))
+    }
+}
+
+/// Refused with a number unless the fact holds.
+fn must(fact: bool, number: u8) -> Result<(), u8> {
+    fact.then_some(()).ok_or(number)
+}
+
+fn is_set(flags: u64, bit: u32) -> bool {
+    flags >> bit & 1 == 1
+}
+
+pub fn read_header(input: &[u8]) -> Result<Head, u8> {
+    let mut rest = Rest(input);
+    let preamble = rest.bytes(8).ok_or(10)?;
+    let mut fields = rest.0;
+    let length = Rest(fields).number(4).ok_or(10)?;
+    must(preamble[..4] == [0x53, 0x46, 0x43, 0x00], 11)?;
+    must(preamble[4..] == [0, 0, 1, 0], 12)?;
+    must((331..=65_536).contains(&length), 13)?;
+    // the region is the length field and as many bytes as it says
+    let region = Rest(fields).bytes(4 + length).ok_or(10)?;
+    fields = &fields[region.len()..];
+    let trailer = fields.len().checked_sub(64).ok_or(10)?;
+    let head = read_region(region)?;
+    check_trailer(region, &fields[trailer..])?;
+    Ok(head)
+}
+
+fn read_region(region: &[u8]) -> Result<Head, u8> {
+    let mut rest = Rest(region);
+    let head = fixed_fields(&mut rest).expect("a region has at least 335 bytes");
+    check_numbers(&head)?;
+    check_priorities(&head, &mut rest)?;
+    check_extension(&head, &mut rest)?;
+    Ok(head)
+}
+
+fn fixed_fields(rest: &mut Rest) -> Option<Head> {
+    let mut head = Head {
+        header_length: rest.number(4)?,
+        uuid: rest.bytes(16)?.to_vec(),
+        size: rest.number(8)?,
+        format: rest.number(2)?,
+        name: rest.bytes(255)?.to_vec(),
+        hash: rest.bytes(32)?.to_vec(),
+        n: rest.number(4)?,
+        m: rest.number(4)?,
+        s: rest.number(4)?,
+        erasure: rest.number(1)?,
+        compression: rest.number(1)?,
+        flags: rest.number(2)?,
+        priorities: rest.number(2)?,
+    };
+    if let Some(end) = head.name.iter().position(|&byte| byte == 0) {
+        head.name.truncate(end);
+    }
+    Some(head)
+}
+
+/// 14 and 15.
+fn check_shape(head: &Head) -> Result<(), u8> {
+    let &Head { size, n, m, s, .. } = head;
+    must((2..=268_435_456).contains(&s) && s % 2 == 0, 14)?;
+    must((1..=65_534).contains(&n) && m <= 65_534 && n + m <= 65_535, 14)?;
+    must(size <= 1 << 40 && n == size.div_ceil(s).max(1), 14)?;
+    must(n <= 1024 && m <= 32 && s <= 4096, 15)
+}
+
+/// Whether size, N, M and S pass 14 and 15.
+pub fn is_shape_lawful(head: &Head) -> bool {
+    check_shape(head).is_ok()
+}
+
+/// 14 to 19.
+fn check_numbers(head: &Head) -> Result<(), u8> {
+    let &Head { m, erasure, compression, flags, .. } = head;
+    check_shape(head)?;
+    must((m == 0) == (erasure == 0), 16)?;
+    must(matches!(erasure, 0 | 1), 17)?;
+    must(compression == 0, 18)?;
+    must(![0, 1, 2, 3, 5].into_iter().any(|bit| is_set(flags, bit)), 19)
+}
+
+/// 20.
+fn check_priorities(head: &Head, rest: &mut Rest) -> Result<(), u8> {
+    let list: Option<Vec<u64>> = (0..head.priorities).map(|_| rest.number(4)).collect();
+    let list = list.ok_or(20)?;
+    let different: BTreeSet<u64> = list.iter().copied().collect();
+    must(head.priorities <= head.n, 20)?;
+    must(different.len() == list.len(), 20)?;
+    must(different.last().is_none_or(|&greatest| greatest < head.n), 20)
+}
+
+/// 21.
+fn check_extension(head: &Head, rest: &mut Rest) -> Result<(), u8> {
+    let mut previous = None;
+    while !rest.0.is_empty() {
+        let tag = rest.number(2).ok_or(21)?;
+        let length = rest.number(4).ok_or(21)?;
+        rest.bytes(length).ok_or(21)?;
+        must(previous < Some(tag), 21)?;
+        must(length <= 16_384, 21)?;
+        let lawful = match tag {
+            0x0020 => length == 8 * (head.n + head.m) && is_set(head.flags, 6),
+            0x0030 => length == 2 && is_set(head.flags, 7),
+            0x0100..=0x0104 => (1..=4096).contains(&length),
+            _ => true,
+        };
+        must(lawful, 21)?;
+        previous = Some(tag);
+    }
+    Ok(())
+}
+
+/// The place in the input where the value of the first field with this tag begins, and its length; the rest of the header
+/// may be wrong, but H must have its range, and the field must lie whole in the region.
+pub fn find_field(input: &[u8], wanted: u64) -> Option<(usize, u64)> {
+    let mut rest = Rest(input);
+    rest.bytes(8)?;
+    let length = Rest(rest.0).number(4).filter(|length| (331..=65_536).contains(length))?;
+    rest.0 = &rest.0[..rest.0.len().min(4 + length as usize)];
+    let region_end = 8 + rest.0.len();
+    let priorities = fixed_fields(&mut rest)?.priorities;
+    rest.bytes(4 * priorities)?;
+    loop {
+        let (tag, length) = (rest.number(2)?, rest.number(4)?);
+        let place = region_end - rest.0.len();
+        rest.bytes(length)?;
+        if tag == wanted {
+            return Some((place, length));
+        }
+    }
+}
+
+/// 22 and 23.
+fn check_trailer(region: &[u8], trailer: &[u8]) -> Result<(), u8> {
+    let mut rest = Rest(trailer);
+    let mut next = |count| rest.bytes(count).expect("a trailer has 64 bytes");
+    let (word, zeros, hashed, _time, more_zeros) = (next(4), next(4), next(32), next(8), next(16));
+    must(word == b"TRLR" && zeros == [0; 4] && more_zeros == [0; 16], 22)?;
+    must(hashed == hash(region), 23)
+}
+
+/// The index and the payload of a whole chunk; bytes behind it are not looked at.
+pub fn check_chunk<'a>(head: &Head, input: &'a [u8]) -> Result<(u64, &'a [u8]), u8> {
+    let mut rest = Rest(input);
+    let mut header = Rest(rest.bytes(48).ok_or(30)?);
+    let mut next = |width| header.bytes(width).expect("a chunk's header has 48 bytes");
+    let number = |bytes| Rest(bytes).number(bytes.len() as u64).unwrap();
+    let (magic, uuid, index, kind, length) = (next(4), next(16), number(next(4)), number(next(4)), number(next(4)));
+    let (compression, erasure, reserved) = (number(next(1)), number(next(1)), next(14));
+    must(magic == [0x43, 0x48, 0x4B, 0x00], 31)?;
+    must(length <= 2 * head.s, 32)?;
+    let payload = rest.bytes(length).ok_or(30)?;
+    let mut trailer = Rest(rest.bytes(36).ok_or(30)?);
+    let covered = &input[..48 + payload.len()];
+    must(trailer.bytes(32) == Some(&hash(covered)), 33)?;
+    must(trailer.bytes(4) == Some(b"/CHK"), 34)?;
+    must(uuid == head.uuid, 35)?;
+    must(index < head.n + head.m, 36)?;
+    let suited = if index < head.n { 1 } else { 2 };
+    must(kind == suited, 37)?;
+    must(reserved == [0; 14], 38)?;
+    must((compression, erasure) == (head.compression, head.erasure), 39)?;
+    must(length == head.s, 40)?;
+    Ok((index, payload))
+}
+
+/// What a writer is given. A field is a tag and a value.
+#[derive(Clone, Default)]
+pub struct Plan {
+    pub content: Vec<u8>,
+    pub s: u32,
+    pub m: u32,
+    pub uuid: [u8; 16],
+    pub time: u64,
+    pub format: u16,
+    pub name: Vec<u8>,
+    pub flags: u16,
+    pub priorities: Vec<u32>,
+    pub fields: Vec<(u16, Vec<u8>)>,
+}
+
+impl Plan {
+    fn erasure(&self) -> u8 {
+        u8::from(self.m > 0)
+    }
+
+    /// The data blocks, the last filled up with zeros; one block of zeros for no content.
+    fn data_blocks(&self) -> Vec<Vec<u8>> {
+        let size = self.s as usize;
+        let mut padded = self.content.clone();
+        padded.resize(padded.len().div_ceil(size).max(1) * size, 0);
+        padded.chunks(size).map(<[u8]>::to_vec).collect()
+    }
+
+    pub fn region(&self) -> Vec<u8> {
+        let mut name = self.name.clone();
+        name.resize(255, 0);
+        let mut body = self.uuid.to_vec();
+        body.extend((self.content.len() as u64).to_le_bytes());
+        body.extend(self.format.to_le_bytes());
+        body.extend(name);
+        body.extend(hash(&self.content));
+        for number in [self.data_blocks().len() as u32, self.m, self.s] {
+            body.extend(number.to_le_bytes());
+        }
+        body.extend([self.erasure(), 0]);
+        body.extend(self.flags.to_le_bytes());
+        body.extend((self.priorities.len() as u16).to_le_bytes());
+        body.extend(self.priorities.iter().flat_map(|index| index.to_le_bytes()));
+        for (tag, value) in &self.fields {
+            body.extend(tag.to_le_bytes());
+            body.extend((value.len() as u32).to_le_bytes());
+            body.extend(value);
+        }
+        [(body.len() as u32).to_le_bytes().to_vec(), body].concat()
+    }
+
+    fn chunk(&self, index: usize, kind: u32, payload: &[u8]) -> Vec<u8> {
+        let mut chunk = b"CHK\0".to_vec();
+        chunk.extend(self.uuid);
+        for number in [index as u32, kind, payload.len() as u32] {
+            chunk.extend(number.to_le_bytes());
+        }
+        chunk.extend([0, self.erasure()]);
+        chunk.extend([0; 14]);
+        chunk.extend(payload);
+        let sealed = hash(&chunk);
+        [&chunk[..], &sealed, b"/CHK"].concat()
+    }
+
+    /// The chunks of the file, rising by index.
+    pub fn chunks(&self) -> Vec<Vec<u8>> {
+        let data = self.data_blocks();
+        let recovery = (0..self.m as usize).map(|k| recovery_block(&data, self.m as usize, k));
+        let kinds = data.iter().map(|_| 1).chain(std::iter::repeat(2));
+        let blocks: Vec<Vec<u8>> = data.iter().cloned().chain(recovery).collect();
+        blocks.iter().zip(kinds).enumerate().map(|(index, (block, kind))| self.chunk(index, kind, block)).collect()
+    }
+
+    /// A file with some of its chunks, or any other bytes, between region and trailer.
+    pub fn file_around(&self, middle: &[u8]) -> Vec<u8> {
+        let region = self.region();
+        let mut file = b"SFC\0\0\0\x01\0".to_vec();
+        file.extend(&region);
+        file.extend(middle);
+        file.extend(b"TRLR\0\0\0\0");
+        file.extend(hash(&region));
+        file.extend(self.time.to_le_bytes());
+        file.extend([0; 16]);
+        file
+    }
+
+    pub fn file(&self) -> Vec<u8> {
+        self.file_around(&self.chunks().concat())
+    }
+}
+
+/// Recovery block k: each word is the sum of the data blocks' words there, each times its weight.
+fn recovery_block(data: &[Vec<u8>], m: usize, k: usize) -> Vec<u8> {
+    let mut sums = vec![0u16; data[0].len() / 2];
+    for (j, block) in data.iter().enumerate() {
+        let weight = inverse((k ^ (m + j)) as u16);
+        for (sum, word) in sums.iter_mut().zip(block.chunks(2)) {
+            *sum ^= mul(weight, u16::from_le_bytes([word[0], word[1]]));
+        }
+    }
+    sums.into_iter().flat_map(u16::to_le_bytes).collect()
+}

@@ -1,0 +1,263 @@
+//! What the program sfc_probe prints for the same frames, which crates/sfc_probe/src/frame.rt describes.
+use crate::blake3::{hash, hex};
+use crate::container::{check_chunk, find_field, read_header, Head};
+use crate::session::Session;
+use std::io::Read;
+
+pub const SAY: u8 = 1;
+pub const LOAD: u8 = 10;
+pub const KEEP: u8 = 11;
+pub const RESTORE: u8 = 12;
+pub const CUT: u8 = 13;
+pub const SET_BYTE: u8 = 20;
+pub const SET_16: u8 = 21;
+pub const SET_32: u8 = 22;
+pub const SEAL_HEADER: u8 = 23;
+pub const SEAL_CHUNK: u8 = 24;
+pub const READ_HEADER: u8 = 30;
+pub const HEADER_BYTES: u8 = 31;
+pub const HEADER_BYTES_SEALED: u8 = 32;
+pub const HEADER_LENGTHS: u8 = 33;
+pub const FIND_FIELD: u8 = 34;
+pub const CHECK_CHUNK: u8 = 40;
+pub const CHUNK_BYTES: u8 = 41;
+pub const CHUNK_BYTES_SEALED: u8 = 42;
+pub const CHUNK_LENGTHS: u8 = 43;
+pub const BEGIN: u8 = 50;
+pub const SET_TALLY: u8 = 51;
+pub const OFFER: u8 = 52;
+pub const SHOW: u8 = 53;
+
+/// The most bytes that a file has here, and a printed line.
+const ROOM: usize = 65_536;
+const LINE: usize = 4_096;
+/// The most marks of a session.
+const MARKS: usize = 4_096;
+
+/// The input that is still to be read.
+struct Input(std::vec::IntoIter<u8>);
+
+impl Input {
+    fn take(&mut self, count: usize) -> Vec<u8> {
+        self.0.by_ref().take(count).collect()
+    }
+}
+
+fn number(bytes: &[u8]) -> usize {
+    bytes.iter().rev().fold(0, |high, &byte| high << 8 | usize::from(byte))
+}
+
+/// A part of a file that starts at a place and has a length, as far as there is one.
+fn clipped(length: usize, start: usize, count: usize) -> std::ops::Range<usize> {
+    let start = start.min(length);
+    start..start.saturating_add(count).min(length)
+}
+
+fn put(file: &mut [u8], at: usize, bytes: &[u8]) {
+    if let Some(place) = file.get_mut(at..at.saturating_add(bytes.len())) {
+        place.copy_from_slice(bytes);
+    }
+}
+
+fn seal_header(file: &mut [u8]) {
+    let length = number(file.get(8..12).unwrap_or(&[0xff; 4]));
+    if length + 76 <= file.len() {
+        let sealed = hash(&file[8..12 + length]);
+        put(file, file.len() - 56, &sealed);
+    }
+}
+
+fn seal_chunk(chunk: &mut [u8]) {
+    let length = number(chunk.get(28..32).unwrap_or(&[0xff; 4]));
+    if length + 84 <= chunk.len() {
+        let sealed = hash(&chunk[..48 + length]);
+        put(chunk, 48 + length, &sealed);
+    }
+}
+
+fn print_head(head: &Head) {
+    print!("good H={} uuid={}", head.header_length, hex(&head.uuid));
+    print!(" size={} format={} name={}", head.size, head.format, hex(&head.name));
+    print!(" hash={} N={} M={} S={}", hex(&head.hash), head.n, head.m, head.s);
+    print!(" erasure={} compression={}", head.erasure, head.compression);
+    println!(" flags={} P={}", head.flags, head.priorities);
+}
+
+/// Prints neighbours with the same answer as one line; 0 stands for an accepted input.
+fn print_runs(first: usize, answers: &[u8]) {
+    let mut place = first;
+    for run in answers.chunk_by(|left, right| left == right) {
+        println!("{}..{} {}", place, place + run.len(), run[0]);
+        place += run.len();
+    }
+}
+
+fn header_answer(file: &[u8]) -> u8 {
+    read_header(file).err().unwrap_or(0)
+}
+
+fn chunk_answer(head: &Head, chunk: &[u8]) -> u8 {
+    check_chunk(head, chunk).err().unwrap_or(0)
+}
+
+/// The answers for each place, with that byte of the text changed and the text then sealed.
+fn damaged(
+    text: &[u8],
+    places: std::ops::Range<usize>,
+    mask: u8,
+    seal: fn(&mut [u8]),
+    answer: impl Fn(&[u8]) -> u8,
+) -> Vec<u8> {
+    let answer_at = |place: usize| {
+        let mut changed = text.to_vec();
+        changed[place] ^= mask;
+        seal(&mut changed);
+        answer(&changed)
+    };
+    places.map(answer_at).collect()
+}
+
+fn unsealed(_: &mut [u8]) {}
+
+struct Probe {
+    file: Vec<u8>,
+    kept: Vec<u8>,
+    head: Head,
+    session: Session,
+}
+
+impl Probe {
+    fn sweep_header(&self, from: usize, to: usize, mask: u8, seal: fn(&mut [u8])) {
+        let places = from..to.min(self.file.len());
+        print_runs(from, &damaged(&self.file, places, mask, seal, header_answer));
+    }
+
+    fn sweep_chunk(&self, part: std::ops::Range<usize>, mask: u8, seal: fn(&mut [u8])) {
+        let chunk = &self.file[part];
+        let answer = |changed: &[u8]| chunk_answer(&self.head, changed);
+        print_runs(0, &damaged(chunk, 0..chunk.len(), mask, seal, answer));
+    }
+
+    fn edit(&mut self, opcode: u8, small: u8, a: usize, b: usize) {
+        let length = self.file.len();
+        match opcode {
+            KEEP => self.kept = self.file.clone(),
+            RESTORE => self.file = self.kept.clone(),
+            CUT => self.file.truncate(a),
+            SET_BYTE => put(&mut self.file, a, &[small]),
+            SET_16 => put(&mut self.file, a, &b.to_le_bytes()[..2]),
+            SET_32 => put(&mut self.file, a, &b.to_le_bytes()[..4]),
+            SEAL_HEADER => seal_header(&mut self.file),
+            SEAL_CHUNK => seal_chunk(&mut self.file[a.min(length)..]),
+            _ => {}
+        }
+    }
+
+    fn read(&mut self) {
+        match read_header(&self.file) {
+            Ok(head) => {
+                print_head(&head);
+                self.head = head;
+            }
+            Err(number) => println!("{number}"),
+        }
+    }
+
+    fn check(&self, part: std::ops::Range<usize>) {
+        match check_chunk(&self.head, &self.file[part]) {
+            // the payload lies behind the header of 48 bytes
+            Ok((index, _)) => println!("whole {index} 48"),
+            Err(number) => println!("{number}"),
+        }
+    }
+
+    fn offer(&mut self, part: std::ops::Range<usize>) {
+        match self.session.offer(&self.head, &self.file[part]) {
+            Ok(offered) => {
+                let word = if offered.fresh { "fresh" } else { "repeat" };
+                println!("{word} {} {}", offered.index, offered.index * self.head.s);
+            }
+            Err(number) => println!("{number}"),
+        }
+    }
+
+    fn show(&self) {
+        println!("marks {}", hex(&self.session.marks()));
+        println!("store {}", hex(&hash(&self.session.store())));
+        let tallies: Vec<String> = self.session.tallies.iter().map(u64::to_string).collect();
+        println!("tallies {}", tallies.join(" "));
+    }
+
+    /// Frames of a session.
+    fn serve(&mut self, opcode: u8, small: u8, a: usize, b: usize) {
+        match opcode {
+            BEGIN => self.session = Session::new(&self.head, a.min(ROOM), b.min(MARKS), small),
+            SET_TALLY => {
+                if let Some(tally) = self.session.tallies.get_mut(a) {
+                    *tally = b as u64;
+                }
+            }
+            OFFER => self.offer(clipped(self.file.len(), a, b)),
+            SHOW => self.show(),
+            _ => {}
+        }
+    }
+
+    fn ask(&mut self, opcode: u8, small: u8, a: usize, b: usize) {
+        let part = clipped(self.file.len(), a, b);
+        match opcode {
+            READ_HEADER => self.read(),
+            HEADER_BYTES => self.sweep_header(a, b, small, unsealed),
+            HEADER_BYTES_SEALED => self.sweep_header(a, b, small, seal_header),
+            HEADER_LENGTHS => {
+                let answers: Vec<u8> =
+                    (a..b.min(self.file.len())).map(|length| header_answer(&self.file[..length])).collect();
+                print_runs(a, &answers);
+            }
+            FIND_FIELD => match find_field(&self.file, a as u64 % 65_536) {
+                Some((place, length)) => println!("at {place} {length}"),
+                None => println!("nothing"),
+            },
+            CHECK_CHUNK => self.check(part),
+            CHUNK_BYTES => self.sweep_chunk(part, small, unsealed),
+            CHUNK_BYTES_SEALED => self.sweep_chunk(part, small, seal_chunk),
+            CHUNK_LENGTHS => {
+                let chunk = &self.file[part];
+                let answers: Vec<u8> =
+                    (0..chunk.len()).map(|length| chunk_answer(&self.head, &chunk[..length])).collect();
+                print_runs(0, &answers);
+            }
+            _ => {}
+        }
+    }
+}
+
+/// Answers the frames of standard input.
+pub fn print() {
+    let mut bytes = Vec::new();
+    std::io::stdin().read_to_end(&mut bytes).expect("standard input can be read");
+    let mut input = Input(bytes.into_iter());
+    // before a header is read, chunks are held to one of zeros
+    let head = Head { uuid: vec![0; 16], ..Head::default() };
+    let session = Session::new(&head, 0, 0, 0);
+    let mut probe = Probe { file: Vec::new(), kept: Vec::new(), head, session };
+    loop {
+        let frame = input.take(10);
+        if frame.len() < 10 || frame[0] == 0 {
+            return;
+        }
+        let (opcode, small, a, b) = (frame[0], frame[1], number(&frame[2..6]), number(&frame[6..]));
+        match opcode {
+            SAY => println!("{}", String::from_utf8_lossy(&input.take(a.min(LINE)))),
+            LOAD => {
+                probe.file = input.take(a.min(ROOM));
+                probe.kept = probe.file.clone();
+            }
+            _ => {
+                probe.edit(opcode, small, a, b);
+                probe.ask(opcode, small, a, b);
+                probe.serve(opcode, small, a, b);
+            }
+        }
+    }
+}

@@ -1,0 +1,140 @@
+//! Chunks: each field at its bounds, damage in every byte, and the order of the checks.
+use super::script::*;
+use crate::container::Plan;
+use crate::probe::*;
+
+/// Places of a chunk's fields, counted from its first byte.
+mod in_chunk {
+    pub const UUID: usize = 4;
+    pub const INDEX: usize = 20;
+    pub const KIND: usize = 24;
+    pub const LENGTH: usize = 28;
+    pub const COMPRESSION: usize = 32;
+    pub const ERASURE: usize = 33;
+    pub const RESERVED: usize = 34;
+}
+
+/// Before any header is read, chunks are held to one of zeros: an empty payload is the most that it takes, and no session fits.
+pub fn before_a_header(script: &mut Script) {
+    script.say("a chunk before any header, and an offer");
+    let plan = Plan { uuid: [0; 16], ..plan(2, 2, 0) };
+    script.load(&plan.file());
+    let (at, _) = places(&plan)[0];
+    script.check(at, 90);
+    script.edit(&[Four(at + in_chunk::LENGTH, 0), Four(at + 80, END_MARKER)]);
+    script.frame(SEAL_CHUNK, 0, at, 0);
+    script.check(at, 90);
+    script.frame(BEGIN, 0, 0, 0);
+    script.frame(OFFER, 0, at, 90);
+}
+
+pub fn damaged_chunks(script: &mut Script) {
+    let plan = plan(14, 4, 1);
+    script.load(&plan.file());
+    script.read();
+    for (title, place) in [("data", 1), ("recovery", 4)] {
+        let (at, length) = places(&plan)[place];
+        for mask in [0x01, 0x02, 0x04, 0x80, 0xFF] {
+            script.say(&format!("each byte of a {title} chunk changed by {mask:02x}"));
+            script.frame(CHUNK_BYTES, mask, at, length);
+            script.say("the same, sealed");
+            script.frame(CHUNK_BYTES_SEALED, mask, at, length);
+            script.say("the same, sealed, with the next bytes of the file behind it");
+            script.frame(CHUNK_BYTES_SEALED, mask, at, length + 12);
+        }
+        script.say(&format!("D.11 each shorter length of a {title} chunk"));
+        script.frame(CHUNK_LENGTHS, 0, at, length);
+        script.say("each length of it with bytes behind");
+        script.frame(CHUNK_LENGTHS, 0, at, length + 64);
+    }
+}
+
+pub fn chunk_fields(script: &mut Script) {
+    // N = 3, M = 2, S = 8
+    let plan = plan(20, 8, 2);
+    script.load(&plan.file());
+    script.read();
+    let (at, length) = places(&plan)[1];
+    indices_and_types(script, (at, length));
+    payload_lengths(script, at);
+    single_bytes(script, (at, length));
+}
+
+fn indices_and_types(script: &mut Script, whole: (usize, usize)) {
+    let (at, _) = whole;
+    for index in [0, 1, 2, 3, 4, 5, 6, 256, 65_536, 1 << 24, u32::MAX as usize] {
+        for kind in [0, 1, 2, 3, 257, 1 << 24] {
+            let case = match (index, kind) {
+                (5, 2) => "D.18 ",
+                (1, 3) => "D.22 ",
+                _ => "",
+            };
+            let title = format!("{case}index {index} with type {kind}");
+            script.chunk(&title, whole, &[Four(at + in_chunk::INDEX, index), Four(at + in_chunk::KIND, kind)], &[]);
+        }
+    }
+}
+
+fn payload_lengths(script: &mut Script, at: usize) {
+    let most = u32::MAX as usize;
+    for payload in [0, 1, 6, 7, 8, 9, 10, 15, 16, 17, 18, 264, 65_544, 200_000, most - 83, most] {
+        let length_field = Four(at + in_chunk::LENGTH, payload);
+        let marker = Four(at + 80 + payload, END_MARKER);
+        let case = if payload == 17 { "D.68 " } else { "" };
+        script.chunk(&format!("{case}payload length {payload}"), (at, 300), &[length_field], &[marker]);
+        script.chunk("the same without an end marker there", (at, 300), &[length_field], &[]);
+        script.chunk("the same with a byte too few", (at, 83 + payload), &[length_field], &[marker]);
+    }
+}
+
+fn single_bytes(script: &mut Script, whole: (usize, usize)) {
+    let (at, _) = whole;
+    for identifier in [1, 2, 0x80, 0xFF] {
+        let edit = Byte(at + in_chunk::COMPRESSION, identifier);
+        script.chunk(&format!("D.33 compression identifier {identifier}"), whole, &[edit], &[]);
+    }
+    for identifier in [0, 2, 0x80, 0xFF] {
+        let edit = Byte(at + in_chunk::ERASURE, identifier);
+        script.chunk(&format!("erasure identifier {identifier}"), whole, &[edit], &[]);
+    }
+    script.chunk("identifiers exchanged", whole, &[Two(at + in_chunk::COMPRESSION, 0x0001)], &[]);
+    script.chunk("D.9 the last reserved byte", whole, &[Byte(at + 47, 1)], &[]);
+    script.chunk("D.5 another UUID", whole, &[Byte(at + in_chunk::UUID + 15, 0x1F)], &[]);
+    script.chunk("D.67 no end marker", whole, &[], &[Four(at + 88, END_MARKER + 1)]);
+    script.chunk("D.4 another payload without its hash", whole, &[], &[Byte(at + 48, 0xEE)]);
+    script.chunk("another payload with its hash", whole, &[Byte(at + 48, 0xEE)], &[]);
+}
+
+/// A breach of each check of the chunk at a place, which has eight bytes of payload, N = 3 and M = 2.
+pub fn breaches(at: usize) -> Vec<Breach> {
+    // too short even for six bytes of payload
+    let short = Cut(at + 89);
+    vec![
+        breach(31, &[Byte(at, 0)], &[]),
+        // sealed first: there are too few bytes to seal
+        breach(32, &[], &[Four(at + in_chunk::LENGTH, 17)]),
+        breach(30, &[], &[short]),
+        breach(33, &[], &[Byte(at + 56, 0x5A), Byte(at + 57, 0xA5)]),
+        breach(34, &[], &[Byte(at + 88, 0)]),
+        breach(35, &[Byte(at + in_chunk::UUID, 9)], &[]),
+        breach(36, &[Four(at + in_chunk::INDEX, 5)], &[]),
+        breach(37, &[Four(at + in_chunk::KIND, 3)], &[]),
+        breach(38, &[Byte(at + in_chunk::RESERVED, 1)], &[]),
+        breach(39, &[Byte(at + in_chunk::ERASURE, 0)], &[]),
+        // six bytes of payload, and an end marker behind their hash
+        breach(40, &[Four(at + in_chunk::LENGTH, 6), Four(at + 86, END_MARKER)], &[]),
+    ]
+}
+
+pub fn chunk_order(script: &mut Script) {
+    let plan = plan(20, 8, 2);
+    script.say("two checks of a chunk broken at once, each with each");
+    script.load(&plan.file());
+    script.read();
+    let (at, _) = places(&plan)[1];
+    pairs(&breaches(at), |title, before, after| script.chunk(title, (at, 92), before, after));
+    script.say("under 48 bytes and another magic");
+    script.edit(&[Byte(at, 0), Cut(at + 47)]);
+    script.check(at, 92);
+    script.restore();
+}

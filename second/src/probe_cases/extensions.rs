@@ -1,0 +1,136 @@
+//! Extension fields: their order, their ends, and the rule of each tag.
+use super::headers::{at, shape};
+use super::script::*;
+use crate::container::Plan;
+use crate::probe::*;
+
+/// A header with these bytes behind its priority list.
+fn extended(flags: u16, extension: &[u8]) -> Vec<u8> {
+    let mut file = Plan { flags, ..plan(18, 4, 2) }.file_around(&[]);
+    let trailer = file.split_off(file.len() - 64);
+    file.extend(extension);
+    let length = (file.len() - 12) as u32;
+    file[at::H..at::H + 4].copy_from_slice(&length.to_le_bytes());
+    file.extend(trailer);
+    file
+}
+
+fn field(tag: u16, length: u32, value: usize) -> Vec<u8> {
+    [&tag.to_le_bytes()[..], &length.to_le_bytes(), &text(value)].concat()
+}
+
+/// A header with an extension, sealed and read.
+fn extension(script: &mut Script, title: &str, flags: u16, bytes: &[u8]) {
+    script.say(title);
+    script.load(&extended(flags, bytes));
+    script.seal();
+    script.frame(KEEP, 0, 0, 0);
+    script.read();
+}
+
+pub fn extension_order(script: &mut Script) {
+    let two = |first, second| [field(first, 1, 1), field(second, 1, 1)].concat();
+    extension(script, "tags rising by one", 0, &two(0x0200, 0x0201));
+    extension(script, "equal unknown tags", 0, &two(0x0200, 0x0200));
+    extension(script, "tags falling by one", 0, &two(0x0201, 0x0200));
+    extension(script, "tags that fall where bytes are read big-endian", 0, &two(0x01FF, 0x0200));
+    extension(script, "tag 0 first", 0, &two(0, 1));
+    extension(script, "tag 0 twice", 0, &two(0, 0));
+    extension(script, "the greatest tag twice", 0, &two(0xFFFF, 0xFFFF));
+    extension(script, "D.14 tag 0x0030 twice", 0x80, &[field(0x0030, 2, 2), field(0x0030, 2, 2)].concat());
+    extension(script, "equal metadata tags", 0, &two(0x0101, 0x0101));
+    extension(script, "the third tag falls", 0, &[two(0x0200, 0x0300), field(0x02FF, 0, 0)].concat());
+}
+
+pub fn extension_ends(script: &mut Script) {
+    for left in 1..6 {
+        extension(script, &format!("{left} bytes that are no field"), 0, &text(left));
+        let behind = [field(0x0200, 2, 2), vec![0xFF; left]].concat();
+        extension(script, &format!("{left} bytes behind a field"), 0, &behind);
+    }
+    extension(script, "D.24 an empty unknown field", 0, &field(0x0200, 0, 0));
+    extension(script, "D.15 an unknown field up to the region's end", 0, &field(0x0200, 300, 300));
+    extension(script, "D.21 a field that ends a byte late", 0, &field(0x0200, 301, 300));
+    extension(script, "a field that ends a byte early", 0, &field(0x0200, 299, 300));
+    extension(script, "an empty field that ends a byte late", 0, &field(0x0200, 1, 0));
+    extension(script, "a length that leaps", 0, &field(0x0200, u32::MAX, 8));
+    extension(script, "a length that wraps to the field's front", 0, &field(0x0200, u32::MAX - 5, 8));
+    extension(script, "a length that wraps to the next field", 0, &field(0x0200, 0x8000_0000, 8));
+    extension(script, "length 16,384", 0, &field(0x0200, 16_384, 16_384));
+    extension(script, "D.44 length 16,385", 0, &field(0x0200, 16_385, 16_385));
+}
+
+pub fn extension_rules(script: &mut Script) {
+    for (title, flags, length) in [
+        ("0x0020 with 8(N+M) bytes and bit 6", 0x40, 56),
+        ("D.27 0x0020 without bit 6", 0x00, 56),
+        ("0x0020 with bit 7 in its place", 0x80, 56),
+        ("0x0020 with eight bytes less", 0x40, 48),
+        ("0x0020 with a byte less", 0x40, 55),
+        ("0x0020 with a byte more", 0x40, 57),
+        ("0x0020 with 8N bytes", 0x40, 40),
+        ("0x0020 with no bytes", 0x40, 0),
+    ] {
+        extension(script, title, flags, &field(0x0020, length, length as usize));
+    }
+    for (title, flags, length) in [
+        ("0x0030 with two bytes and bit 7", 0x80, 2),
+        ("0x0030 without bit 7", 0x00, 2),
+        ("0x0030 with bit 6 in its place", 0x40, 2),
+        ("D.25 0x0030 with eight bytes", 0x80, 8),
+        ("0x0030 with a byte", 0x80, 1),
+        ("0x0030 with three bytes", 0x80, 3),
+        ("0x0030 with no bytes", 0x80, 0),
+    ] {
+        extension(script, title, flags, &field(0x0030, length, length as usize));
+    }
+    extension(script, "bits 6 and 7 without fields", 0xC0, &[]);
+    extension(script, "D.59 bits 5 and 6 with 0x0020", 0x60, &field(0x0020, 56, 56));
+    large_offset_index(script);
+    for length in [0, 1, 4096, 4097] {
+        extension(script, &format!("0x00FF with length {length}"), 0, &field(0x00FF, length, length as usize));
+        for tag in 0x0100..=0x0105 {
+            script.header(&format!("{tag:#06x} with length {length}"), &[Two(at::LIST, tag)]);
+        }
+    }
+}
+
+/// Fields looked up: in a good header, in cut ones, and in one that is refused.
+pub fn lookups(script: &mut Script) {
+    let file = super::headers::every_rule().file();
+    script.say("each field of a header looked up, and tags that it lacks");
+    script.load(&file);
+    for tag in [0, 1, 2, 0x10, 0x11, 0x12, 0x20, 0x30, 0xFF, 0x100, 0x104, 0x105, 0x7FFF, 0x8000, 0xFFFE, 0xFFFF] {
+        script.frame(FIND_FIELD, 0, tag, 0);
+    }
+    script.say("the first, a middle and the last field of cut inputs");
+    for length in [0, 11, 12, 342, 343, 354, 355, 360, 361, 378, 389, 429, 430, 526, 532, 533] {
+        script.edit(&[Cut(length)]);
+        for tag in [0x0000, 0x0020, 0xFFFF] {
+            script.frame(FIND_FIELD, 0, tag, 0);
+        }
+        script.restore();
+    }
+    script.say("the last field with other H");
+    for length in [0, 330, 331, 520, 521, 522, 65_536, 65_537] {
+        script.edit(&[Four(at::H, length)]);
+        script.frame(FIND_FIELD, 0, 0xFFFF, 0);
+        script.restore();
+    }
+    script.say("the first field with other P");
+    for count in [0, 2, 3, 4, 46, 47, 48, 65_535] {
+        script.edit(&[Two(at::P, count)]);
+        script.frame(FIND_FIELD, 0, 0, 0);
+        script.restore();
+    }
+    extension(script, "the first of equal tags", 0, &[field(0x0200, 3, 3), field(0x0200, 1, 1)].concat());
+    script.frame(FIND_FIELD, 0, 0x0200, 0);
+}
+
+/// The offset index of the most blocks that the house takes, and of one block fewer.
+fn large_offset_index(script: &mut Script) {
+    let bytes = 8 * (1024 + 32);
+    extension(script, "0x0020 of seven blocks with the length for 1,056", 0x40, &field(0x0020, bytes, bytes as usize));
+    script.header("0x0020 of 1,056 blocks", &shape(2048, 1024, 32, 2));
+    script.header("0x0020 of 1,055 blocks", &shape(2048, 1024, 31, 2));
+}
