@@ -6,6 +6,7 @@ mod code_vectors;
 mod container;
 mod field;
 mod field_vectors;
+mod note;
 mod probe;
 mod probe_cases;
 mod session;

@@ -1,6 +1,7 @@
 //! What the program sfc_probe prints for the same frames, which crates/sfc_probe/src/frame.rt describes.
 use crate::blake3::{hash, hex};
 use crate::container::{check_chunk, find_field, read_header, Head};
+use crate::note::{missing, note, prefix, ranges, read_note};
 use crate::session::Session;
 use std::io::Read;
 
@@ -19,6 +20,7 @@ pub const HEADER_BYTES: u8 = 31;
 pub const HEADER_BYTES_SEALED: u8 = 32;
 pub const HEADER_LENGTHS: u8 = 33;
 pub const FIND_FIELD: u8 = 34;
+pub const SET_HEAD: u8 = 35;
 pub const CHECK_CHUNK: u8 = 40;
 pub const CHUNK_BYTES: u8 = 41;
 pub const CHUNK_BYTES_SEALED: u8 = 42;
@@ -27,12 +29,25 @@ pub const BEGIN: u8 = 50;
 pub const SET_TALLY: u8 = 51;
 pub const OFFER: u8 = 52;
 pub const SHOW: u8 = 53;
+pub const LEND: u8 = 54;
+pub const PREFIX: u8 = 60;
+pub const LIST_MISSING: u8 = 61;
+pub const WRITE_NOTE: u8 = 62;
+pub const READ_NOTE: u8 = 63;
+pub const NOTE_VALUES: u8 = 64;
+pub const NOTE_LENGTHS: u8 = 65;
 
 /// The most bytes that a file has here, and a printed line.
 const ROOM: usize = 65_536;
 const LINE: usize = 4_096;
 /// The most marks of a session.
 const MARKS: usize = 4_096;
+/// The most numbers of an output.
+const NUMBERS: usize = 1_024;
+
+/// What an output has before a call.
+const PATTERN: u8 = 0xA5;
+const NUMBER_PATTERN: u32 = 0xA5A5_A5A5;
 
 /// The input that is still to be read.
 struct Input(std::vec::IntoIter<u8>);
@@ -119,6 +134,27 @@ fn damaged(
 
 fn unsealed(_: &mut [u8]) {}
 
+/// An answer in the front of an output of so many parts, or 52; a refusal leaves the output's pattern.
+fn lent<T: Copy>(given: Result<Vec<T>, u8>, count: usize, pattern: T) -> (Result<usize, u8>, Vec<T>) {
+    let given = given.and_then(|parts| if count < parts.len() { Err(52) } else { Ok(parts) });
+    let front = given.clone().unwrap_or_default();
+    let output = front.iter().copied().chain(std::iter::repeat(pattern)).take(count).collect();
+    (given.map(|parts| parts.len()), output)
+}
+
+fn numbers(output: &[u32]) -> String {
+    output.iter().map(|number| format!(" {number:08x}")).collect()
+}
+
+/// 0 for a note whose numbers fit the largest output.
+fn note_answer(bytes: &[u8]) -> u8 {
+    match read_note(bytes) {
+        Ok((_, pairs)) if 2 * pairs.len() <= NUMBERS => 0,
+        Ok(_) => 52,
+        Err(number) => number,
+    }
+}
+
 struct Probe {
     file: Vec<u8>,
     kept: Vec<u8>,
@@ -188,10 +224,84 @@ impl Probe {
         println!("tallies {}", tallies.join(" "));
     }
 
+    /// A session on memory as the file has it: first the marks, behind them the store.
+    fn lend(&mut self, store: usize, marks: usize) {
+        let (lent_marks, rest) = self.file.split_at(marks.min(self.file.len()));
+        let lent_store = &rest[..store.min(rest.len())];
+        let lent_marks = &lent_marks[..lent_marks.len().min(MARKS)];
+        self.session = Session::new(&self.head, lent_store.to_vec(), lent_marks.to_vec());
+    }
+
+    fn give_prefix(&self, room: usize) {
+        let given = prefix(&self.head, &self.session.store(), &self.session.marks());
+        let blocks = given.as_ref().map_or(0, |given| given.0);
+        let (answer, output) = lent(given.map(|given| given.1), room, PATTERN);
+        match answer {
+            Ok(bytes) => println!("unverified {blocks} {bytes} {}", hex(&output)),
+            Err(number) => println!("{number} {}", hex(&output)),
+        }
+    }
+
+    fn list_missing(&self, room: usize) {
+        let (answer, output) = lent(missing(&self.head, &self.session.marks()), room, NUMBER_PATTERN);
+        match answer {
+            Ok(count) => println!("listed {count}{}", numbers(&output)),
+            Err(number) => println!("{number}{}", numbers(&output)),
+        }
+    }
+
+    fn write_note(&self, room: usize) {
+        let list = missing(&self.head, &self.session.marks());
+        let (answer, output) = lent(list.map(|list| note(&self.head.uuid, &ranges(&list))), room, PATTERN);
+        match answer {
+            Ok(length) => println!("note {length} {}", hex(&output)),
+            Err(number) => println!("{number} {}", hex(&output)),
+        }
+    }
+
+    fn read_note(&self, room: usize) {
+        let read = read_note(&self.file);
+        let uuid = read.as_ref().map_or(vec![0; 16], |read| read.0.clone());
+        let bounds = read.map(|read| read.1.iter().flat_map(|&(first, last)| [first, last]).collect());
+        let (answer, output) = lent(bounds, room, NUMBER_PATTERN);
+        match answer {
+            Ok(count) => println!("good ranges {} uuid {}{}", count / 2, hex(&uuid), numbers(&output)),
+            Err(number) => println!("{number} ranges 0 uuid {}{}", hex(&[0; 16]), numbers(&output)),
+        }
+    }
+
+    /// Frames of what a session knows, and of notes.
+    fn tell(&mut self, opcode: u8, a: usize) {
+        match opcode {
+            PREFIX => self.give_prefix(a.min(ROOM)),
+            LIST_MISSING => self.list_missing(a.min(NUMBERS)),
+            WRITE_NOTE => self.write_note(a.min(ROOM)),
+            READ_NOTE => self.read_note(a.min(NUMBERS)),
+            NOTE_VALUES => {
+                let answer_with = |value: u8| {
+                    let mut changed = self.file.clone();
+                    put(&mut changed, a, &[value]);
+                    note_answer(&changed)
+                };
+                print_runs(0, &(0..=255).map(answer_with).collect::<Vec<u8>>());
+            }
+            NOTE_LENGTHS => {
+                let answers: Vec<u8> = (0..self.file.len()).map(|length| note_answer(&self.file[..length])).collect();
+                print_runs(0, &answers);
+            }
+            _ => {}
+        }
+    }
+
     /// Frames of a session.
     fn serve(&mut self, opcode: u8, small: u8, a: usize, b: usize) {
         match opcode {
-            BEGIN => self.session = Session::new(&self.head, a.min(ROOM), b.min(MARKS), small),
+            BEGIN => {
+                let mut marks = vec![0; b.min(MARKS)];
+                put(&mut marks, 0, &[small]);
+                self.session = Session::new(&self.head, vec![0; a.min(ROOM)], marks);
+            }
+            LEND => self.lend(a, b),
             SET_TALLY => {
                 if let Some(tally) = self.session.tallies.get_mut(a) {
                     *tally = b as u64;
@@ -218,6 +328,12 @@ impl Probe {
                 Some((place, length)) => println!("at {place} {length}"),
                 None => println!("nothing"),
             },
+            SET_HEAD => match small {
+                0 => self.head.size = (b as u64) << 32 | a as u64,
+                1 => self.head.n = a as u64,
+                2 => self.head.m = a as u64,
+                _ => self.head.s = a as u64,
+            },
             CHECK_CHUNK => self.check(part),
             CHUNK_BYTES => self.sweep_chunk(part, small, unsealed),
             CHUNK_BYTES_SEALED => self.sweep_chunk(part, small, seal_chunk),
@@ -239,7 +355,7 @@ pub fn print() {
     let mut input = Input(bytes.into_iter());
     // before a header is read, chunks are held to one of zeros
     let head = Head { uuid: vec![0; 16], ..Head::default() };
-    let session = Session::new(&head, 0, 0, 0);
+    let session = Session::new(&head, Vec::new(), Vec::new());
     let mut probe = Probe { file: Vec::new(), kept: Vec::new(), head, session };
     loop {
         let frame = input.take(10);
@@ -257,6 +373,7 @@ pub fn print() {
                 probe.edit(opcode, small, a, b);
                 probe.ask(opcode, small, a, b);
                 probe.serve(opcode, small, a, b);
+                probe.tell(opcode, a);
             }
         }
     }

@@ -3,6 +3,8 @@
 mod chunks;
 mod extensions;
 mod headers;
+mod histories;
+mod notes;
 mod script;
 mod sessions;
 
@@ -28,9 +30,13 @@ fn harmless(script: &mut Script) {
     for opcode in [CUT, SET_BYTE, SET_16, SET_32, SEAL_CHUNK, HEADER_BYTES, HEADER_BYTES_SEALED, HEADER_LENGTHS] {
         script.frame(opcode, 1, most, most);
     }
-    for opcode in [CHECK_CHUNK, CHUNK_BYTES, CHUNK_BYTES_SEALED, CHUNK_LENGTHS, SET_TALLY, OFFER, 2, 99, 255] {
+    for opcode in [CHECK_CHUNK, CHUNK_BYTES, CHUNK_BYTES_SEALED, CHUNK_LENGTHS, SET_TALLY, OFFER, LEND, 2, 99, 255] {
         script.frame(opcode, 1, most, most);
     }
+    for opcode in [NOTE_VALUES, NOTE_LENGTHS, SET_HEAD] {
+        script.frame(opcode, 1, most, most);
+    }
+    script.frame(PREFIX, 0, 3, 0);
     script.read();
     script.edit(&[Two(846, 0xFFFF), Four(845, most), Byte(847, 1), Two(845, 0)]);
     script.read();
@@ -52,6 +58,7 @@ fn harmless(script: &mut Script) {
 pub fn write() {
     let parts = [
         chunks::before_a_header,
+        notes::before_a_header,
         headers::written_files,
         headers::numbers_at_bounds,
         headers::identifiers_and_flags,
@@ -71,6 +78,17 @@ pub fn write() {
         sessions::lent_memory,
         sessions::full_tallies,
         sessions::any_order,
+        histories::every_order,
+        histories::long_histories,
+        notes::worked_note,
+        notes::every_set_of_marks,
+        notes::sizes,
+        notes::wrong_memory,
+        notes::wrong_numbers,
+        notes::largest_session,
+        notes::damaged_notes,
+        notes::ranges_of_notes,
+        notes::starts_of_notes,
         harmless,
     ];
     let mut script = Script::default();

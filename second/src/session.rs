@@ -1,16 +1,16 @@
 //! A session as what each index has met: no payload, one, or payloads that differ.
-use crate::container::{check_chunk, is_shape_lawful, Head};
+use crate::container::{check_chunk, Head};
+use crate::note::are_marks_right;
 use std::collections::{BTreeMap, BTreeSet};
 
 /// The sum of the tallies at which no further offer is counted.
 const FULL: u64 = 4_294_967_295;
 
-/// The lengths of the lent store and marks, the first mark as it was lent, and what has been offered.
+/// The store and the marks as they were lent, and what has been offered.
 /// Tallies: fresh, repeat, and the refusals by 30 to 42.
 pub struct Session {
-    store: u64,
-    marks: u64,
-    first_mark: u8,
+    lent_store: Vec<u8>,
+    lent_marks: Vec<u8>,
     met: BTreeMap<u64, BTreeSet<Vec<u8>>>,
     pub tallies: [u64; 15],
 }
@@ -22,23 +22,24 @@ pub struct Offered {
 }
 
 impl Session {
-    /// A store and marks of zeros, but for the first mark.
-    pub fn new(head: &Head, store: usize, marks: usize, first_mark: u8) -> Session {
-        let block = vec![0; head.s as usize];
-        let payloads = match first_mark {
-            1 => BTreeSet::from([block]),
-            // barred: two payloads that no chunk has
-            2 => BTreeSet::from([vec![], vec![0]]),
-            _ => BTreeSet::new(),
+    /// A held index has met its block of the lent store, and a barred one two payloads that no chunk has.
+    pub fn new(head: &Head, lent_store: Vec<u8>, lent_marks: Vec<u8>) -> Session {
+        let width = head.s as usize;
+        let payloads = |(index, mark): (usize, &u8)| match mark {
+            1 => {
+                let block = lent_store.get(index * width..(index + 1) * width).unwrap_or_default();
+                Some((index as u64, BTreeSet::from([block.to_vec()])))
+            }
+            2 => Some((index as u64, BTreeSet::from([vec![], vec![0]]))),
+            _ => None,
         };
-        let met = BTreeMap::from([(0, payloads)]);
-        Session { store: store as u64, marks: marks as u64, first_mark, met, tallies: [0; 15] }
+        let met = lent_marks.iter().enumerate().filter_map(payloads).collect();
+        Session { lent_store, lent_marks, met, tallies: [0; 15] }
     }
 
     fn is_lent_right(&self, head: &Head) -> bool {
-        let blocks = head.n + head.m;
-        let lengths = (self.store, self.marks) == (blocks * head.s, blocks);
-        is_shape_lawful(head) && lengths && self.first_mark <= 2
+        let length = (head.n + head.m) * head.s;
+        are_marks_right(head, &self.lent_marks) && self.lent_store.len() as u64 == length
     }
 
     pub fn offer(&mut self, head: &Head, chunk: &[u8]) -> Result<Offered, u8> {
@@ -66,23 +67,22 @@ impl Session {
         let fresh = payloads.is_empty();
         let new = payloads.insert(payload.to_vec());
         if new && !fresh {
+            let at = index as usize * payload.len();
+            self.lent_store[at..at + payload.len()].fill(0);
             return Err(41);
         }
         Ok(Offered { fresh, index })
     }
 
     pub fn marks(&self) -> Vec<u8> {
-        let mark = |index| self.met.get(&index).map_or(0, |payloads| payloads.len().min(2) as u8);
-        let mut marks: Vec<u8> = (0..self.marks).map(mark).collect();
-        if let Some(first) = marks.first_mut().filter(|_| self.first_mark > 2) {
-            *first = self.first_mark;
-        }
-        marks
+        let met = |index| self.met.get(&index).map_or(0, |payloads| payloads.len().min(2) as u8);
+        let mark = |(index, &lent): (usize, &u8)| if lent > 2 { lent } else { met(index as u64) };
+        self.lent_marks.iter().enumerate().map(mark).collect()
     }
 
-    /// The held payloads, each from its index times its length on, and zeros elsewhere.
+    /// The held payloads, each from its index times its length on; elsewhere what was lent, or the zeros of a conflict.
     pub fn store(&self) -> Vec<u8> {
-        let mut store = vec![0; self.store as usize];
+        let mut store = self.lent_store.clone();
         let held = self.met.iter().filter(|(_, payloads)| payloads.len() == 1);
         for (&index, payloads) in held {
             let payload = payloads.first().expect("one payload is held");

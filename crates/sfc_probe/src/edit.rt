@@ -36,6 +36,14 @@ pub(crate) fn copy(src: &[u8], dst: &mut [u8]) {
     }
 }
 
+pub(crate) fn set_all(bytes: &mut [u8], value: u8) {
+    let mut i = 0;
+    while i < bytes.len() {
+        bytes[i] = value;
+        i += 1;
+    }
+}
+
 // Reads up to `count` bytes of input to the front of the buffer, as far as it goes, and answers how many.
 pub(crate) fn fill(count: usize, buffer: &mut [u8]) -> usize
     ensures { λ r. ⌜ Counts r (now (buffer .exit)) ⌝ }

@@ -39,6 +39,8 @@ pub(crate) const HEADER_BYTES_SEALED: u8 = 32;
 pub(crate) const HEADER_LENGTHS: u8 = 33;
 // The extension field with tag a is looked up.
 pub(crate) const FIND_FIELD: u8 = 34;
+// A number of the kept head becomes another: by the small number the size (a + 2^32·b), N, M or S (a).
+pub(crate) const SET_HEAD: u8 = 35;
 
 // The b bytes at a are checked as a chunk.
 pub(crate) const CHECK_CHUNK: u8 = 40;
@@ -58,6 +60,22 @@ pub(crate) const SET_TALLY: u8 = 51;
 pub(crate) const OFFER: u8 = 52;
 // Marks, store and tallies are shown.
 pub(crate) const SHOW: u8 = 53;
+// A session begins with the first b bytes of the file as its marks and the a bytes behind them as its store.
+pub(crate) const LEND: u8 = 54;
+
+// The prefix, the missing list or the note of the session is asked for, with an output of a bytes or numbers that have a
+// pattern; all of the output is printed.
+pub(crate) const PREFIX: u8 = 60;
+
+pub(crate) const LIST_MISSING: u8 = 61;
+
+pub(crate) const WRITE_NOTE: u8 = 62;
+// The file is read as a note, with such an output.
+pub(crate) const READ_NOTE: u8 = 63;
+// The same with byte a at each of its values; the same for each shorter length.
+pub(crate) const NOTE_VALUES: u8 = 64;
+
+pub(crate) const NOTE_LENGTHS: u8 = 65;
 
 pub(crate) struct Frame {
     pub(crate) opcode: u8,

@@ -82,6 +82,19 @@ pub(crate) fn read(kept: Head, file: &[u8]) -> Head {
     }
 }
 
+// The head with another number, which no header need have.
+pub(crate) fn with_number(frame: Frame, head: Head) -> Head {
+    let which = frame.small;
+    let mut next = head;
+    match which {
+        0 => next.size = frame.b as u64 * 4294967296 + frame.a as u64,
+        1 => next.n = frame.a,
+        2 => next.m = frame.a,
+        _ => next.s = frame.a,
+    }
+    next
+}
+
 // Where the value of a field begins, and its length.
 pub(crate) fn find(file: &[u8], tag: u16) {
     let found = find_field(file, tag);

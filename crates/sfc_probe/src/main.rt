@@ -4,6 +4,8 @@ mod chunk;
 mod edit;
 mod frame;
 mod header;
+mod known;
+mod note;
 mod print;
 mod run;
 mod session;
@@ -12,6 +14,12 @@ use edit::Sizes;
 use frame::Frame;
 use session::Session;
 use sfc::header::Head;
+
+// Frames that take the file, or a part of it, as a chunk or a note.
+fn ask_part(frame: Frame, head: Head, file: &mut [u8]) {
+    note::ask(frame, file);
+    chunk::ask(frame, head, file);
+}
 
 // Frames that ask; the answer is the head that later chunks are held to.
 fn ask(frame: Frame, head: Head, file: &mut [u8]) -> Head {
@@ -30,8 +38,9 @@ fn ask(frame: Frame, head: Head, file: &mut [u8]) -> Head {
             header::sweep(frame, file);
             head
         }
+        frame::SET_HEAD => header::with_number(frame, head),
         _ => {
-            chunk::ask(frame, head, file);
+            ask_part(frame, head, file);
             head
         }
     }

@@ -27,6 +27,20 @@ pub(crate) fn bytes(label: &[u8], b: &[u8]) {
     }
 }
 
+fn eight_digits(number: u32) {
+    text(b" ");
+    io::print_hex(STDOUT_FILENO, number as u64, 8);
+}
+
+// Each number as eight digits.
+pub(crate) fn numbers(numbers: &[u32]) {
+    let mut i = 0;
+    while i < numbers.len() {
+        eight_digits(numbers[i]);
+        i += 1;
+    }
+}
+
 // A label and a number.
 pub(crate) fn field(label: &[u8], n: u64) {
     text(label);

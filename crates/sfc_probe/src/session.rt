@@ -2,6 +2,7 @@
 use crate::edit;
 use crate::frame;
 use crate::frame::Frame;
+use crate::known;
 use crate::print;
 use sfc::header::Head;
 use sfc::reason::number_of;
@@ -24,21 +25,26 @@ pub(crate) fn none() -> Session {
     }
 }
 
-fn clear(b: &mut [u8]) {
-    let mut i = 0;
-    while i < b.len() {
-        b[i] = 0;
-        i += 1;
-    }
-}
-
 fn begin(frame: Frame, store: &mut [u8], marks: &mut [u8]) -> Session {
-    clear(store);
-    clear(marks);
+    edit::set_all(store, 0);
+    edit::set_all(marks, 0);
     edit::set_byte(marks, 0, frame.small);
     Session {
         store: edit::least(frame.a as usize, store.len()),
         marks: edit::least(frame.b as usize, marks.len()),
+        tallies: Tallies::new(),
+    }
+}
+
+fn lend(frame: Frame, store: &mut [u8], marks: &mut [u8], file: &[u8]) -> Session {
+    let middle = edit::within(frame.b as usize, file);
+    edit::copy(&file[..middle], marks);
+    let rest = &file[middle..];
+    let end = edit::within(frame.a as usize, rest);
+    edit::copy(&rest[..end], store);
+    Session {
+        store: edit::least(end, store.len()),
+        marks: edit::least(middle, marks.len()),
         tallies: Tallies::new(),
     }
 }
@@ -159,7 +165,10 @@ fn serve_lent(
             show(tallies, store, marks);
             tallies
         }
-        _ => tallies,
+        _ => {
+            known::ask(frame, head, store, marks);
+            tallies
+        }
     }
 }
 
@@ -173,6 +182,9 @@ pub(crate) fn serve(
 ) -> Session {
     if frame.opcode == frame::BEGIN {
         return begin(frame, store, marks);
+    }
+    if frame.opcode == frame::LEND {
+        return lend(frame, store, marks, file);
     }
     let tallies = session.tallies;
     let store_end = edit::within(session.store, store);

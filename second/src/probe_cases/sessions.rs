@@ -5,14 +5,14 @@ use crate::container::Plan;
 use crate::probe::*;
 
 /// A session of a plan: the places of its chunks, and the memory that it wants.
-struct Stage {
-    chunks: Vec<(usize, usize)>,
-    store: usize,
+pub struct Stage {
+    pub chunks: Vec<(usize, usize)>,
+    pub store: usize,
 }
 
 impl Stage {
     /// Loads the file and reads its header.
-    fn set(script: &mut Script, plan: &Plan) -> Stage {
+    pub fn set(script: &mut Script, plan: &Plan) -> Stage {
         script.load(&plan.file());
         script.read();
         let chunks = places(plan);
@@ -20,7 +20,7 @@ impl Stage {
         Stage { chunks, store }
     }
 
-    fn begin(&self, script: &mut Script, title: &str) {
+    pub fn begin(&self, script: &mut Script, title: &str) {
         self.begin_with(script, title, 0);
     }
 
@@ -29,7 +29,7 @@ impl Stage {
         script.frame(BEGIN, first_mark, self.store, self.chunks.len());
     }
 
-    fn offer(&self, script: &mut Script, index: usize) {
+    pub fn offer(&self, script: &mut Script, index: usize) {
         let (at, length) = self.chunks[index];
         script.frame(OFFER, 0, at, length);
     }
@@ -44,7 +44,7 @@ impl Stage {
     }
 }
 
-fn show(script: &mut Script) {
+pub fn show(script: &mut Script) {
     script.frame(SHOW, 0, 0, 0);
 }
 
