@@ -61,28 +61,24 @@ pub fn extension_ends(script: &mut Script) {
 }
 
 pub fn extension_rules(script: &mut Script) {
-    for (title, flags, length) in [
-        ("0x0020 with 8(N+M) bytes and bit 6", 0x40, 56),
-        ("D.27 0x0020 without bit 6", 0x00, 56),
-        ("0x0020 with bit 7 in its place", 0x80, 56),
-        ("0x0020 with eight bytes less", 0x40, 48),
-        ("0x0020 with a byte less", 0x40, 55),
-        ("0x0020 with a byte more", 0x40, 57),
-        ("0x0020 with 8N bytes", 0x40, 40),
-        ("0x0020 with no bytes", 0x40, 0),
+    for (tag, title, flags, length) in [
+        (0x0020, "0x0020 with 8(N+M) bytes and bit 6", 0x40, 56),
+        (0x0020, "D.27 0x0020 without bit 6", 0x00, 56),
+        (0x0020, "0x0020 with bit 7 in its place", 0x80, 56),
+        (0x0020, "0x0020 with eight bytes less", 0x40, 48),
+        (0x0020, "0x0020 with a byte less", 0x40, 55),
+        (0x0020, "0x0020 with a byte more", 0x40, 57),
+        (0x0020, "0x0020 with 8N bytes", 0x40, 40),
+        (0x0020, "0x0020 with no bytes", 0x40, 0),
+        (0x0030, "0x0030 with two bytes and bit 7", 0x80, 2),
+        (0x0030, "0x0030 without bit 7", 0x00, 2),
+        (0x0030, "0x0030 with bit 6 in its place", 0x40, 2),
+        (0x0030, "D.25 0x0030 with eight bytes", 0x80, 8),
+        (0x0030, "0x0030 with a byte", 0x80, 1),
+        (0x0030, "0x0030 with three bytes", 0x80, 3),
+        (0x0030, "0x0030 with no bytes", 0x80, 0),
     ] {
-        extension(script, title, flags, &field(0x0020, length, length as usize));
-    }
-    for (title, flags, length) in [
-        ("0x0030 with two bytes and bit 7", 0x80, 2),
-        ("0x0030 without bit 7", 0x00, 2),
-        ("0x0030 with bit 6 in its place", 0x40, 2),
-        ("D.25 0x0030 with eight bytes", 0x80, 8),
-        ("0x0030 with a byte", 0x80, 1),
-        ("0x0030 with three bytes", 0x80, 3),
-        ("0x0030 with no bytes", 0x80, 0),
-    ] {
-        extension(script, title, flags, &field(0x0030, length, length as usize));
+        extension(script, title, flags, &field(tag, length, length as usize));
     }
     extension(script, "bits 6 and 7 without fields", 0xC0, &[]);
     extension(script, "D.59 bits 5 and 6 with 0x0020", 0x60, &field(0x0020, 56, 56));
