@@ -2,7 +2,7 @@
 use mathlib.Core.Path.{_≡_, refl, sym, _∙_, ap, ap₂}
 use mathlib.Core.Bool.{cond}
 use mathlib.Core.List.{List, [], _∷_}
-use Prim.Native.Nat.{ℕ, zero, suc, _+_, _*_, _/_, _%_, _<_, suc-le-suc}
+use Prim.Native.Nat.{ℕ, suc, _+_, _*_, _/_, _%_, _<_, suc-le-suc}
 use native.Mathlib.Decide.{ℕ-discrete}
 use native.Mathlib.Omega.{arith}
 use lib.ListN.{length, getD, take}
@@ -11,19 +11,13 @@ use lib.Bits.{bitXor}
 use borrow.Author.Tests.{eq-eqb, ne-eqb}
 use Rattle.little.specs.Parts.{block}
 use Rattle.gf16.specs.Field.{mul, inv}
-use Rattle.cauchy.specs.Code.{wordAt, wordOf, wordBytes, fieldSum, share, Held}
+use Rattle.cauchy.specs.Code.{wordAt, wordOf, wordBytes, share, Held}
 use Rattle.cauchy.specs.System.{field, solve}
 use Rattle.cauchy.specs.Decode.{held, missing, rowsUsed, heldSum, side, sides, foundWords, rank, decode}
 use Rattle.cauchy.specs.Theorems.{Blind}
 use Rattle.cauchy.proofs.BlockLaws.{wordBytes-ext, word-block}
+use Rattle.cauchy.proofs.CodeLaws.{sum-ext}
 use Rattle.cauchy.proofs.Known.{UsedRows, rows-used}
-
-sum-ext : (f g : ℕ → ℕ) (c n : ℕ) → ((i : ℕ) → i < n → f (c + i) ≡ g (c + i)) → fieldSum f c n ≡ fieldSum g c n
-unfolding fieldSum
-sum-ext f g c zero h = refl
-sum-ext f g c (suc n) h =
-    let e₀ : c + 0 ≡ c = omega arith in
-    ap₂ bitXor (rw e₀ at (h 0 (omega arith))) (sum-ext f g (suc c) n (λ i m. let e₁ : suc c + i ≡ c + suc i = omega arith in rw e₁ (h (suc i) (suc-le-suc m))))
 
 module _ (n m s : ℕ) (marks store other : List ℕ) (even : s % 2 ≡ 0) (agree : (i : ℕ) → i < n + m → Held marks i → block s store i ≡ block s other i) where
   -- a word of a held block

@@ -1,7 +1,7 @@
 -- Sums of blocks: a turn of `mul_add`, and a turn of the encoder. Assumes nothing.
 use mathlib.Core.Path.{_≡_, refl, sym, _∙_, ap, ap₂}
-use mathlib.Core.List.{List, []}
-use Prim.Native.Nat.{ℕ, zero, suc, _+_, _-_, _*_, _/_, _%_, _<_}
+use mathlib.Core.List.{List, _++_}
+use Prim.Native.Nat.{ℕ, zero, suc, _+_, _-_, _*_, _/_, _%_, _≤_, _<_, suc-le-suc}
 use native.Mathlib.Omega.{arith}
 use native.Mathlib.Numerals.{add-one}
 use lib.ListN.{getD, length, take, drop}
@@ -10,11 +10,12 @@ use Rattle.gf16.specs.Field.{mul, inv}
 use Rattle.gf16.proofs.Laws.{laws}
 use Rattle.little.specs.Fields.{bytesOf}
 use Rattle.cauchy.proofs.WordBytes.{word-is, bytes-sum}
-use Rattle.cauchy.proofs.BlockLaws.{length-wordBytes, word-back, joined-ext, word-block, length-block}
+use Rattle.cauchy.proofs.BlockLaws.{length-wordBytes, word-back, joined-ext, wordBytes-ext, word-block, length-block}
 use Rattle.cauchy.proofs.MixLaws.{mixed, mixed-word}
 use Rattle.cauchy.specs.Code.{fieldSum, share, wordAt, wordBytes, recoveryWord, recoveryBlock}
 use Rattle.cauchy.specs.Inner.{mulAdded}
-use Rattle.little.specs.Parts.{block}
+use Rattle.little.specs.Parts.{part, block}
+use Rattle.little.proofs.PartLaws.{part-append-left, part-append-right, part-whole, block-inside}
 
 abbrev pub mixing : ℕ → List ℕ → List ℕ → ℕ → ℕ
 mixing c dst src w = bitXor (wordAt dst (2 * w)) (mul c (wordAt src (2 * w)))
@@ -37,6 +38,13 @@ mulAdded-of c f g W src h =
 -- word w of the sum of the shares of the first j data blocks
 abbrev pub firstShares : ℕ → ℕ → ℕ → List ℕ → ℕ → ℕ → ℕ
 firstShares m s k store j w = fieldSum (λ i. share m s store k w i) 0 j
+
+pub sum-ext : (f g : ℕ → ℕ) (c n : ℕ) → ((i : ℕ) → i < n → f (c + i) ≡ g (c + i)) → fieldSum f c n ≡ fieldSum g c n
+unfolding fieldSum
+sum-ext f g c zero h = refl
+sum-ext f g c (suc n) h =
+    let e₀ : c + 0 ≡ c = omega arith in
+    ap₂ bitXor (rw e₀ at (h 0 (omega arith))) (sum-ext f g (suc c) n (λ i m. let e₁ : suc c + i ≡ c + suc i = omega arith in rw e₁ (h (suc i) (suc-le-suc m))))
 
 -- one share more, at the end
 sum-more : (f : ℕ → ℕ) (c j : ℕ) → fieldSum f c (suc j) ≡ bitXor (fieldSum f c j) (f (c + j))
@@ -74,5 +82,40 @@ sum-end n m s k store out j z e = rw z at e
 pub length-out : (f : ℕ → ℕ) (s : ℕ) (out : List ℕ) → s % 2 ≡ 0 → out ≡ wordBytes f 0 (s / 2) → length out ≡ s
 length-out f s out h e = ap length e ∙ length-wordBytes f 0 (s / 2) ∙ omega arith
 
+pub length-recovery : (n m s : ℕ) (blocks : List ℕ) (k : ℕ) → s % 2 ≡ 0 → length (recoveryBlock n m s blocks k) ≡ s
+unfolding recoveryBlock
+length-recovery n m s blocks k even = length-out (λ w. recoveryWord n m s blocks k w) s _ even refl
+
 pub length-part : (n s j width : ℕ) (store : List ℕ) → length store ≡ n * s → j < n → width ≡ s → length (take width (drop (j * s) store)) ≡ s
 length-part n s j width store l h e = ap (λ (x : ℕ). length (take x (drop (j * s) store))) e ∙ length-block n s store j l h
+
+-- ---- the last block apart from those before it
+
+-- what the first blocks bring, alone and with the last one behind them
+front-shares : (c m s k : ℕ) (front last : List ℕ) (w : ℕ) → s % 2 ≡ 0 → length front ≡ c * s → w < s / 2
+    → firstShares m s k front c w ≡ firstShares m s k (front ++ last) c w
+front-shares c m s k front last w even l hw =
+    let e : s ≡ 2 * (s / 2) = omega arith in
+    sum-ext (λ j. share m s front k w j) (λ j. share m s (front ++ last) k w j) 0 c
+    (λ j hj.
+    let z : 0 + j ≡ j = omega arith in
+    rw z (ap (mul (inv (bitXor k (m + j))))
+    (sym (word-block s (s / 2) front j w e hw)
+    ∙ ap (λ (x : List ℕ). wordAt x (2 * w)) (sym (part-append-left front last (j * s) s (omega (arith, block-inside s c j hj))))
+    ∙ word-block s (s / 2) (front ++ last) j w e hw)))
+
+last-part : (c s : ℕ) (front last : List ℕ) → length front ≡ c * s → length last ≡ s → part (front ++ last) (c * s) s ≡ last
+last-part c s front last lf ll =
+    let e : c * s ≡ length front + 0 = omega arith in
+    ap (λ (x : ℕ). part (front ++ last) x s) e ∙ part-append-right front last 0 s ∙ ap (part last 0) (sym ll) ∙ part-whole last
+
+-- the last turn of the encoder, with a block that lies apart
+pub parts-made : (n m s k : ℕ) (front last out made : List ℕ) (c : ℕ) → 1 ≤ n → s % 2 ≡ 0 → length front ≡ (n - 1) * s → length last ≡ s
+    → out ≡ recoveryBlock (n - 1) m s front k → c ≡ inv (bitXor k (m + (n - 1))) → made ≡ mulAdded c out last
+    → made ≡ recoveryBlock n m s (front ++ last) k
+unfolding recoveryBlock recoveryWord
+parts-made n m s k front last out made c least even lf ll eo ec em =
+    sum-end n m s k (front ++ last) made (n - 1 + 1) (omega arith)
+    (sum-turn m s k (front ++ last) out made (n - 1) c s even
+    (eo ∙ wordBytes-ext (firstShares m s k front (n - 1)) (firstShares m s k (front ++ last) (n - 1)) (s / 2) (λ w hw. front-shares (n - 1) m s k front last w even lf hw))
+    ec refl (em ∙ ap (mulAdded c out) (sym (last-part (n - 1) s front last lf ll))))

@@ -11,7 +11,7 @@ use lib.Bits.{bitXor}
 use Rattle.little.specs.Parts.{block}
 use Rattle.cauchy.specs.Code.{joined, wordBytes, wordOf}
 use Rattle.cauchy.specs.Decode.{held, count, missing, present, holding, missingData, rowsUsed, side, sides, foundWords, rank, decode, decoded, firstHeld, usedMarks}
-use Rattle.cauchy.specs.Theorems.{Shape, Used}
+use Rattle.cauchy.specs.Theorems.{Shape, Used, UsedOne}
 use Rattle.cauchy.proofs.Store.{column}
 use Rattle.cauchy.proofs.BlockLaws.{joined-ext}
 use Rattle.cauchy.proofs.Known.{length-held, held-take, held-drop, count-split, length-missing, length-present, heldRow, held-sum, known, some}
@@ -115,20 +115,34 @@ module _ (n m : ℕ) (marks : List ℕ) (lm : length marks ≡ n + m) (h : n ≤
         ∙ ap (λ (f : ℕ → List ℕ). cond (eqb (getD marks j 0) 1) (block s store j) (wordBytes (λ w. getD (f w) (length (missing 0 (held (take j marks)))) 0) 0 (s / 2)))
         (λ i w. same-words w i)
 
-pub used : Used
+-- ---- all of it
+
+-- a list is `decoded` if each of its blocks is `decode`
+pub as-decoded : (n m s : ℕ) (marks store blocks : List ℕ) → length blocks ≡ n * s
+    → ((j : ℕ) → j < n → block s blocks j ≡ decode n m s marks store j) → blocks ≡ decoded n m s marks store
 unfolding decoded
-used n m s marks store g h =
-    let um : List ℕ = usedMarks n marks in
-    let hn : holding (usedMarks n marks) ≡ n = used-holding n m marks (g .marks-size) h in
-    let g′ : Shape n m s (usedMarks n marks) store = record { even = g .even; small = g .small; marks-size = used-size n m marks (g .marks-size) h; store-blocks = g .store-blocks } in
-    let r = some n m s (usedMarks n marks) store g′ (omega (arith, hn)) in
+as-decoded n m s marks store blocks l same =
     let z : 0 * s ≡ 0 = omega arith in
     let k : 0 + n ≡ n = omega arith in
-    let rest : drop (n * s) (r .0) ≡ [] = drop-of-length-le (r .0) {i = n * s} (omega (arith, r .1 .0)) in
-    let e : r .0 ≡ joined (λ j. decode n m s marks store j) 0 n =
-    (rw (z, k) at (in-blocks s (r .0) 0 n))
-    ∙ ap₂ (λ (x y : List ℕ). x ++ y)
-    (joined-ext (λ j. block s (r .0) j) (λ j. decode n m s marks store j) n
-    (λ j hj. known n m s (usedMarks n marks) store (r .0) g′ (r .1) (r .2) (omega (arith, hn)) j hj ∙ same-decode n m marks (g .marks-size) h s store j hj)) rest
-    ∙ append-nil (joined (λ j. decode n m s marks store j) 0 n) in
-    rw (sym e) (r .1, r .2)
+    (rw (z, k) at (in-blocks s blocks 0 n))
+    ∙ ap₂ (λ (x y : List ℕ). x ++ y) (joined-ext (λ j. block s blocks j) (λ j. decode n m s marks store j) n same)
+    (drop-of-length-le blocks {i = n * s} (omega arith))
+    ∙ append-nil (joined (λ j. decode n m s marks store j) 0 n)
+
+used-shape : (n m s : ℕ) (marks store : List ℕ) → Shape n m s marks store → n ≤ holding marks → Shape n m s (usedMarks n marks) store
+used-shape n m s marks store g h =
+    record { even = g .even; small = g .small; marks-size = used-size n m marks (g .marks-size) h; store-blocks = g .store-blocks }
+
+pub used-one : UsedOne
+used-one n m s marks store blocks g h b f =
+    let hn : holding (usedMarks n marks) ≡ n = used-holding n m marks (g .marks-size) h in
+    as-decoded n m s marks store blocks (b .0)
+    (λ j hj.
+    known n m s (usedMarks n marks) store blocks (used-shape n m s marks store g h) b f (omega (arith, hn)) j hj
+    ∙ same-decode n m marks (g .marks-size) h s store j hj)
+
+pub used : Used
+used n m s marks store g h =
+    let hn : holding (usedMarks n marks) ≡ n = used-holding n m marks (g .marks-size) h in
+    let r = some n m s (usedMarks n marks) store (used-shape n m s marks store g h) (omega (arith, hn)) in
+    rw (sym (used-one n m s marks store (r .0) g h (r .1) (r .2))) (r .1, r .2)

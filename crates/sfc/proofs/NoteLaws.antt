@@ -19,8 +19,8 @@ use Rattle.sfc.specs.Note.{be, bigBytes, pairBytes, pairsBytes, noteOf, 
 use Rattle.sfc.specs.declared.reason.Reason.the-variants.{Note, Lent, OutputShort}
 use Rattle.sfc.specs.declared.reason.Checked.the-variants.{Good}
 use Rattle.sfc.specs.declared.note.NoteRead.{NoteRead}
-use Rattle.sfc.specs.declared.note.Written.{Written}
-use Rattle.sfc.specs.declared.note.Written.the-variants.{Bytes, Refused as Unwritten}
+use Rattle.sfc.specs.declared.written.Written.{Written}
+use Rattle.sfc.specs.declared.written.Written.the-variants.{Bytes, Refused as Unwritten}
 use Rattle.sfc.proofs.HeaderLaws.{or-false, copied}
 use Rattle.sfc.proofs.MissingLaws.{drop-set}
 use Rattle.sfc.proofs.BigLaws.{length-big}
@@ -235,7 +235,7 @@ copy-turn b count out₀ out k first last h room l ef el =
       behind = x ∙ ap (λ (t : List ℕ). first ∷ t) (y ∙ ap (λ (t : List ℕ). last ∷ t) z) ∙ (rw (n, p, q, ef, el) refl);
     }
 
-length-bounds : (b : List ℕ) (at k : ℕ) → length (bounds (pairsFrom b at k)) ≡ 2 * k
+pub length-bounds : (b : List ℕ) (at k : ℕ) → length (bounds (pairsFrom b at k)) ≡ 2 * k
 unfolding bounds pairsFrom
 length-bounds b at zero = refl
 length-bounds b at (suc k) = omega (arith, length-bounds b (at + 8) k)

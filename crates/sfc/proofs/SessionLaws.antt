@@ -143,11 +143,11 @@ between k t = go (leb 30 k) (leb k 40) refl refl t
     go false b e f t = absurd t
 
 -- the number of a refusal is one of the list's
-abbrev Numbers : (ℕ → Type 0) → List Check → Type 0
+abbrev pub Numbers : (ℕ → Type 0) → List Check → Type 0
 Numbers P [] = Unit {0}
 Numbers P (c ∷ cs) = P (numberOf (reasonOf (c .1))) × Numbers P cs
 
-number-in : (P : ℕ → Type 0) (cs : List Check) (r : Reason) → Numbers P cs → verdict cs ≡ Wrong r → P (numberOf r)
+pub number-in : (P : ℕ → Type 0) (cs : List Check) (r : Reason) → Numbers P cs → verdict cs ≡ Wrong r → P (numberOf r)
 number-in P [] r o e = absurd (let z : _≡_ {A = ℕ} 0 1 = cc in omega arith)
 number-in P ((true, k) ∷ cs) r o e = let f : reasonOf k ≡ r = cc in subst (λ (q : Reason). P (numberOf q)) f (o .0)
 number-in P ((false, k) ∷ cs) r o e = number-in P cs r (o .1) e

@@ -12,6 +12,14 @@ pub mod Steps
 pub mod History
 pub mod SessionTheorems
 pub mod Prefix
+pub mod HandOut
+pub mod Block
+pub mod Gather
 pub mod Missing
 pub mod Note
 pub mod NoteTheorems
+pub mod Writer
+pub mod Demand1
+pub mod Demand2
+pub mod Demand3
+pub mod Worked

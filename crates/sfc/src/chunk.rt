@@ -54,7 +54,7 @@ fn check_seal(c: &[u8]) -> Checked
     refuse_if(!stands_at(c, end, &hash), Reason::ChunkHash, marker)
 }
 
-fn type_for(n: u32, index: u32) -> u32
+pub(crate) fn type_for(n: u32, index: u32) -> u32
     ensures { λ r. ⌜ r ≡ typeFor n index ⌝ }
 {
     if index < n { 1 } else { 2 }

@@ -2,6 +2,7 @@
 ghost use mathlib.Core.Path.{_≡_};
 ghost use Prim.Native.Nat.{ℕ, _+_, _^_, _<_};
 ghost use Rattle.sfc.specs.Extension.{ruleBroken, extensionWrong};
+ghost use Rattle.sfc.specs.Writer.{hasSplit};
 
 // Whether a field with this tag and length breaks a rule.
 fn breaks_rule(blocks: u64, flags: u16, tag: u16, length: u64) -> bool
@@ -40,4 +41,29 @@ pub(crate) fn are_fields_wrong(blocks: u64, flags: u16, e: &[u8]) -> bool
         at = at + 6 + length;
     }
     at < e.len()
+}
+
+// Whether a field of the split transport is among them, which the writer does not write.
+pub(crate) fn has_split(e: &[u8]) -> bool
+    ensures { λ r. ⌜ r ≡ hasSplit (now (e .entry)) ⌝ }
+{
+    let mut at = 0;
+    let mut most = e.len();
+    while 0 < most {
+        let rest = &e[at..];
+        if rest.len() < 6 {
+            return false;
+        }
+        let length = little::read32(rest, 2) as usize;
+        if rest.len() - 6 < length {
+            return false;
+        }
+        let tag = little::read16(rest, 0);
+        if (0x0010 <= tag) & (tag <= 0x0012) {
+            return true;
+        }
+        most -= 1;
+        at = at + 6 + length;
+    }
+    false
 }

@@ -1,9 +1,13 @@
-// The SFC container: headers, chunks, the session of marks and blocks, the prefix, the resend note. Every call takes any
-// bytes, and a refusal gives document 01's number.
+// The SFC container: headers, chunks, the session of marks and blocks, the prefix, the hand-out, the block request, the resend
+// note, the writer. Every call takes any bytes, and a refusal gives document 01's number.
+pub mod block;
 mod checks;
 pub mod chunk;
 mod extension;
+mod gather;
+pub mod handout;
 pub mod header;
+mod layout;
 mod limits;
 pub mod lookup;
 mod marks;
@@ -17,3 +21,5 @@ mod runs;
 pub mod session;
 pub mod tallies;
 mod text;
+pub mod writer;
+pub mod written;

@@ -6,7 +6,7 @@ ghost use Rattle.sfc.specs.Limits.{wantedBlocks, unlawful, aboveHouse, s
 ghost use Rattle.sfc.specs.Header.{mispaired, flagsBarred};
 
 // The number of data blocks that a size wants, of blocks that are not empty.
-fn wanted_blocks(size: u64, s: u32) -> u64
+pub(crate) fn wanted_blocks(size: u64, s: u32) -> u64
     requires { ⌜ (s ≡ 0 → ⊥) ⌝ }
     ensures { λ r. ⌜ r ≡ wantedBlocks size s ⌝ }
 {

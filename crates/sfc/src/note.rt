@@ -3,6 +3,7 @@ use crate::marks::is_marks_wrong;
 use crate::missing::open_marks;
 use crate::reason::Checked;
 use crate::reason::Reason;
+use crate::written::Written;
 ghost use mathlib.Core.Path.{_≡_};
 ghost use mathlib.Core.Bool.{true, false};
 ghost use mathlib.Core.List.{_∷_, _++_};
@@ -12,12 +13,6 @@ ghost use Rattle.little.specs.Parts.{put};
 ghost use Rattle.sfc.specs.Numbers.{Answered};
 ghost use Rattle.sfc.specs.Missing.{unheldFrom, ranges, maximal};
 ghost use Rattle.sfc.specs.Note.{be, bigBytes, pairsBytes, writeNote, indexPut, uuidIn, pairsFrom, malformed, bounds, refusedNote, readNote};
-
-// How many bytes a note took.
-pub enum Written {
-    Bytes(usize),
-    Refused(Reason),
-}
 
 // With a refusal the UUID is all zeros and there are no ranges.
 pub struct NoteRead {

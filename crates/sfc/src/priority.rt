@@ -1,4 +1,4 @@
-// The priority list of a header region.
+// The priority list, in a header region and as the writer is given it.
 ghost use mathlib.Core.Path.{_≡_};
 ghost use Prim.Native.Nat.{_^_, _<_};
 ghost use lib.Dec.{eqb};
@@ -45,4 +45,31 @@ pub(crate) fn is_priority_wrong(r: &[u8], n: u32, p: u16) -> bool
     }
     let many = p as usize;
     (r.len() < 335 + 4 * many) | !are_distinct_below(r, 335, many, n)
+}
+
+fn is_among(x: u32, list: &[u32]) -> bool
+    ensures { λ f. ⌜ f ≡ any (eqb x) (now (list .entry)) ⌝ }
+{
+    let mut found = false;
+    let mut i = list.len();
+    while 0 < i {
+        i -= 1;
+        found = (x == list[i]) | found;
+    }
+    found
+}
+
+// Whether each number of a list is below n, and none stands twice.
+pub(crate) fn is_distinct_below(list: &[u32], n: u32) -> bool
+    ensures { λ g. ⌜ g ≡ distinctBelow n (now (list .entry)) ⌝ }
+{
+    let mut good = true;
+    let mut i = list.len();
+    while 0 < i {
+        let after = i;
+        i -= 1;
+        let x = list[i];
+        good = (x < n) & !is_among(x, &list[after..]) & good;
+    }
+    good
 }

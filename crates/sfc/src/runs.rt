@@ -26,3 +26,13 @@ pub(crate) fn clear(d: &mut [u8])
         i += 1;
     }
 }
+
+pub(crate) fn clear_numbers(numbers: &mut [u16])
+    ensures { λ _. ⌜ now (numbers .exit) ≡ zeros (length (now (numbers .entry))) ⌝ }
+{
+    let mut i = 0;
+    while i < numbers.len() {
+        numbers[i] = 0;
+        i += 1;
+    }
+}

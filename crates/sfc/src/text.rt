@@ -1,8 +1,9 @@
-// Bytes at a place of a slice: whether they stand there, and the name before its first zero.
+// Bytes at a place of a slice: whether they stand there, and names, which end before their first zero.
 ghost use mathlib.Core.Path.{_≡_};
 ghost use Prim.Native.Nat.{_+_, _<_, _^_};
 ghost use lib.ListN.{length};
 ghost use Rattle.sfc.specs.Bytes.{standsAt, beforeZero};
+ghost use Rattle.sfc.specs.Writer.{nameWrong};
 
 // Whether `wanted` stands in s from `at` on; a byte past the end counts as 0.
 pub(crate) fn stands_at(s: &[u8], at: usize, wanted: &[u8]) -> bool
@@ -33,4 +34,11 @@ pub(crate) fn name_length(field: &[u8]) -> usize
         }
     }
     count
+}
+
+// Whether a name would not be read back as it is.
+pub(crate) fn is_name_wrong(name: &[u8]) -> bool
+    ensures { λ r. ⌜ r ≡ nameWrong (now (name .entry)) ⌝ }
+{
+    (255 < name.len()) | (name_length(name) < name.len())
 }

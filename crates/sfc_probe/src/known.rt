@@ -7,11 +7,11 @@ use crate::print;
 use sfc::header::Head;
 use sfc::missing::Listed;
 use sfc::missing::list_missing;
-use sfc::note::Written;
 use sfc::note::write_note;
 use sfc::prefix::Given;
 use sfc::prefix::prefix;
 use sfc::reason::number_of;
+use sfc::written::Written;
 
 fn print_given(given: Given) {
     match given {

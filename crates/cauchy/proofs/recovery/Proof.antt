@@ -20,7 +20,7 @@ returns-2 c = let a = c .before .before .before .before .before .args in recover
 
 sum-blocks-requires : tie.Need-sum-blocks-requires
 unfolding wrongLent
-sum-blocks-requires c κs = let a = c .before .before .before .before .before .before .args in let r = lent-right (a .n) (a .m) (a .s) (a .k) (a .store .now) (a .out .now) (c .before .if2 .left) in (sym (c .before .before .before .wrong-shape .ensures) ∙ c .before .before .if1 .left, r .0, r .1, r .2)
+sum-blocks-requires c κs = let a = c .before .before .before .before .before .before .args in let r = lent-right (a .n) (a .m) (a .s) (a .k) (a .store .now) (a .out .now) (c .before .if2 .left) in let g = right (a .n) (a .m) (a .s) (sym (c .before .before .before .wrong-shape .ensures) ∙ c .before .before .if1 .left) in (g .n-most, g .m-most, g .s-most, g .even, r .0, r .1, r .2)
 
 returns-3 : tie.Need-returns-3
 unfolding wrongLent

@@ -1,0 +1,116 @@
+-- A session of an accepted header is one that 71 does not refuse, over a store of bytes, whatever was offered. Assumes nothing.
+use Prim.Native.Nat.{ℕ, zero, suc, _+_, _*_}
+use mathlib.Core.Path.{_≡_, refl, ap, subst}
+use mathlib.Core.Bool.{Bool, true, false, cond}
+use mathlib.Core.List.{List, [], _∷_, _++_}
+use native.Mathlib.Omega.{arith}
+use borrow.Author.Tests.{eq-eqb}
+use lib.Dec.{eqb}
+use lib.ListN.{length, getD, take, drop, length-replicate}
+use lib.Seq.{getD-drop}
+use Rattle.little.specs.Fields.{Bytes}
+use Rattle.little.specs.Parts.{part, put}
+use Rattle.sfc.specs.Bytes.{zeros}
+use Rattle.sfc.specs.Numbers.{Check, checked, numberOf, reasonOf}
+use Rattle.sfc.specs.Limits.{shapeWrong}
+use Rattle.sfc.specs.Marks.{marksWrong}
+use Rattle.sfc.specs.Header.{regionOf, headOf, headerChecks, refusedHeader, acceptedHeader, readHeader}
+use Rattle.sfc.specs.Chunk.{indexOf, payloadLength, payloadOf}
+use Rattle.sfc.specs.Session.{Session, blank, lentWrong, verdictOf, withBlock, settled, after}
+use Rattle.sfc.specs.History.{afterAll}
+use Rattle.sfc.specs.Demand3.{Right, AllBytes}
+use Rattle.sfc.specs.declared.header.Head.{Head}
+use Rattle.sfc.specs.declared.header.HeaderRead.{HeaderRead}
+use Rattle.sfc.specs.declared.reason.Checked.{Checked}
+use Rattle.sfc.specs.declared.reason.Checked.the-variants.{Good, Refused as Wrong}
+use Rattle.sfc.specs.declared.session.Verdict.{Verdict}
+use Rattle.sfc.specs.declared.session.Verdict.the-variants.{Fresh, Repeat, Refused}
+use Rattle.sfc.proofs.CheckLaws.{Passed}
+use Rattle.sfc.proofs.MarkLaws.{fit-all}
+use Rattle.sfc.proofs.OfferLaws.{one-offer}
+
+-- ---- bytes stay bytes
+
+pub bytes-append : (xs ys : List ℕ) → Bytes xs → Bytes ys → Bytes (xs ++ ys)
+bytes-append [] ys a b i = b i
+bytes-append (x ∷ xs) ys a b zero = a 0
+bytes-append (x ∷ xs) ys a b (suc i) = bytes-append xs ys (λ k. a (suc k)) b i
+
+bytes-take : (n : ℕ) (xs : List ℕ) → Bytes xs → Bytes (take n xs)
+bytes-take zero xs a i = omega arith
+bytes-take (suc n) [] a i = omega arith
+bytes-take (suc n) (x ∷ xs) a zero = a 0
+bytes-take (suc n) (x ∷ xs) a (suc i) = bytes-take n xs (λ k. a (suc k)) i
+
+bytes-drop : (n : ℕ) (xs : List ℕ) → Bytes xs → Bytes (drop n xs)
+bytes-drop n xs a i = rw (getD-drop n xs i 0) (a (n + i))
+
+pub zero-at : (n i : ℕ) → getD (zeros n) i 0 ≡ 0
+zero-at zero i = refl
+zero-at (suc n) zero = refl
+zero-at (suc n) (suc i) = zero-at n i
+
+pub bytes-zeros : (n : ℕ) → Bytes (zeros n)
+bytes-zeros n i = omega (arith, zero-at n i)
+
+bytes-put : (xs : List ℕ) (at : ℕ) (ys : List ℕ) → Bytes xs → Bytes ys → Bytes (put xs at ys)
+bytes-put xs at ys a b =
+    bytes-append (take at xs) (ys ++ drop (length ys) (drop at xs)) (bytes-take at xs a)
+    (bytes-append ys (drop (length ys) (drop at xs)) b (bytes-drop (length ys) (drop at xs) (bytes-drop at xs a)))
+
+pub bytes-part : (xs : List ℕ) (at n : ℕ) → Bytes xs → Bytes (part xs at n)
+bytes-part xs at n a = bytes-take n (drop at xs) (bytes-drop at xs a)
+
+-- ---- a blank session of an accepted header
+
+let-through : (cs : List Check) (good : HeaderRead) (h : Head) → checked cs refusedHeader good ≡ acceptedHeader h → Passed cs × (good ≡ acceptedHeader h)
+let-through [] good h e = (tt, e)
+let-through ((true, k) ∷ cs) good h e =
+    let v : _≡_ {A = Checked} (Wrong (reasonOf k)) Good = ap (λ (r : HeaderRead). r .verdict) e in
+    absurd (let z : _≡_ {A = ℕ} 0 1 = cc in omega arith)
+let-through ((false, k) ∷ cs) good h e = let p = let-through cs good h e in ((refl, p .0), p .1)
+
+pub accepted-shape : (b : List ℕ) (h : Head) → readHeader b ≡ acceptedHeader h → shapeWrong (h .size) (h .n) (h .m) (h .s) ≡ false
+unfolding readHeader shapeWrong
+accepted-shape b h e =
+    let t = let-through (headerChecks b) (acceptedHeader (headOf (regionOf b))) h e in
+    let u = t .0 .1 .1 .1 .1 .1 in
+    subst (λ (g : Head). shapeWrong (g .size) (g .n) (g .m) (g .s) ≡ false) (ap (λ (r : HeaderRead). r .head) (t .1)) (rw (u .0, u .1 .0))
+
+pub blank-right : (h : Head) → shapeWrong (h .size) (h .n) (h .m) (h .s) ≡ false → Right h (blank h)
+unfolding lentWrong marksWrong
+blank-right h e = record {
+  lent = rw (
+    e,
+    length-replicate {A = ℕ} (h .n + h .m) 0,
+    eq-eqb (h .n + h .m) (h .n + h .m) refl,
+    fit-all (zeros (h .n + h .m)) (λ i. omega (arith, zero-at (h .n + h .m) i)),
+    length-replicate {A = ℕ} ((h .n + h .m) * h .s) 0,
+    eq-eqb ((h .n + h .m) * h .s) ((h .n + h .m) * h .s) refl,
+  );
+  bytes = bytes-zeros ((h .n + h .m) * h .s);
+}
+
+-- ---- an offer, and a history
+
+settled-bytes : (h : Head) (x : Session) (c : List ℕ) (v : Verdict) → Bytes (x .store) → Bytes (payloadOf c) → Bytes (settled h x c v .store)
+unfolding settled
+settled-bytes h x c (Fresh i p) a b = bytes-put (x .store) (indexOf c * h .s) (payloadOf c) a b
+settled-bytes h x c (Repeat i p) a b = a
+settled-bytes h x c (Refused r) a b = go (eqb (numberOf r) 41)
+  where
+    go : (t : Bool) → Bytes (cond t (withBlock h x (indexOf c) (zeros (h .s)) 2) x .store)
+    go true = bytes-put (x .store) (indexOf c * h .s) (zeros (h .s)) a (bytes-zeros (h .s))
+    go false = a
+
+pub after-right : (h : Head) (x : Session) (c : List ℕ) → Bytes (payloadOf c) → Right h x → Right h (after h x c)
+unfolding after
+after-right h x c b r = record { lent = one-offer .lent-stays h x c (r .lent); bytes = settled-bytes h x c (verdictOf h x c) (r .bytes) b }
+
+all-right : (h : Head) (x : Session) (cs : List (List ℕ)) → AllBytes cs → Right h x → Right h (afterAll h x cs)
+unfolding afterAll
+all-right h x [] b r = r
+all-right h x (c ∷ cs) b r = all-right h (after h x c) cs (b .1) (after-right h x c (bytes-part c 48 (payloadLength c) (b .0)) r)
+
+pub accepted-right : (b : List ℕ) (h : Head) → readHeader b ≡ acceptedHeader h → (cs : List (List ℕ)) → AllBytes cs → Right h (afterAll h (blank h) cs)
+accepted-right b h e cs a = all-right h (blank h) cs a (blank-right h (accepted-shape b h e))
