@@ -17,6 +17,7 @@ use Rattle.sfc.specs.Bytes.{zeros, padded}
 use Rattle.sfc.specs.Limits.{wantedBlocks, shapeWrong}
 use Rattle.sfc.proofs.MarkLaws.{RightShape, right-shape}
 use Rattle.sfc.proofs.LayoutLaws.{length-padded}
+use Rattle.sfc.proofs.LimitLaws.{wanted-holds}
 use Rattle.sfc.proofs.RunOfChunks.{codeChunk}
 
 -- a shape that 14 and 15 let through is one of the code's
@@ -26,24 +27,6 @@ code-shape size n m s w =
     let r = right-shape size n m s w in
     let z : n ≡ 0 → ⊥ = λ e. omega (arith, r .n-least) in
     rw (ne-eqb n 0 z, le-ltb 1024 n (r .n-most), le-ltb 32 m (r .m-most), le-ltb s 2 (r .s-least), le-ltb 4096 s (r .s-most), eq-eqb (s % 2) 0 (r .s-even))
-
--- the content fills all blocks but the last, and fits in all
-pub wanted-holds : (size s : ℕ) → 0 < s → ((wantedBlocks size s - 1) * s ≤ size) × (size ≤ wantedBlocks size s * s)
-unfolding wantedBlocks
-wanted-holds zero s h = (omega (arith, zero-mul s), omega arith)
-wanted-holds (suc k) s h =
-    let q = (suc k + s - 1) / s in
-    let d = div-add-mod' (suc k + s - 1) s in
-    let l = mod-lt (suc k + s - 1) h in
-    let p : 0 < q = positive q d l in
-    rw (eqb·suc-zero k) (omega (arith, below q p), omega arith)
-  where
-    positive : (q : ℕ) → q * s + (suc k + s - 1) % s ≡ suc k + s - 1 → (suc k + s - 1) % s < s → 0 < q
-    positive zero d l = absurd (omega (arith, zero-mul s))
-    positive (suc q) d l = omega arith
-
-    below : (q : ℕ) → 0 < q → (q - 1) * s + s ≡ q * s
-    below q p = let e : q ≡ q - 1 + 1 = omega arith in sym (ap (λ (j : ℕ). j * s) e ∙ add-mul (q - 1) 1 s ∙ ap (λ (j : ℕ). (q - 1) * s + j) (one-mul s))
 
 module _ (n m s : ℕ) (content : List ℕ) (w : shapeWrong (length content) n m s ≡ false) where
   r : RightShape (length content) n m s

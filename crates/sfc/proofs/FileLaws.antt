@@ -27,7 +27,7 @@ use Rattle.sfc.proofs.FillLaws.{Front, front-start, front-length, front
 use Rattle.sfc.proofs.LayoutLaws.{length-padded, length-indices}
 use Rattle.sfc.proofs.LengthLaws.{length-hash, length-chunk, length-joined}
 use Rattle.sfc.proofs.RunOfChunks.{codeChunk}
-use Rattle.sfc.proofs.DataLaws.{wanted-holds}
+use Rattle.sfc.proofs.LimitLaws.{wanted-holds}
 use Rattle.sfc.proofs.RegionBack.{length-region, length-body}
 use Rattle.sfc.proofs.InputLaws.{RightInput, right-input}
 

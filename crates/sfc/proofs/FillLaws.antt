@@ -4,19 +4,27 @@ use mathlib.Core.Path.{_≡_, refl, sym, ap, ap₂, _∙_}
 use mathlib.Core.List.{List, [], _++_, append-assoc, append-nil}
 use native.Mathlib.Omega.{arith}
 use lib.ListN.{length, take, drop, length-append, drop-of-length-le, take-append-drop}
-use lib.Seq.{take-append-seam, drop-append-seam, drop-drop, take-all, take-at, length-take-le}
+use lib.Seq.{take-append-seam, take-append-add, drop-append-seam, drop-append-add, drop-drop, take-all, take-at, length-take-le}
 use Rattle.little.specs.Parts.{part, put}
 use Rattle.little.specs.Fields.{bytesOf, putLe}
 use Rattle.little.proofs.PartLaws.{lent, length-put, length-part}
 use Rattle.little.proofs.FieldLaws.{laws, put-fits}
 use Rattle.sfc.proofs.HeaderLaws.{copied}
 
-put-more : (xs a b : List ℕ) → put (put xs 0 a) (length a) b ≡ put xs 0 (a ++ b)
-put-more xs a b =
-    ap₂ (λ (u v : List ℕ). u ++ (b ++ drop (length b) v)) (take-append-seam a (drop (length a) xs)) (drop-append-seam a (drop (length a) xs))
-    ∙ ap (λ (v : List ℕ). a ++ (b ++ v)) (drop-drop (length b) (length a) xs)
-    ∙ sym (append-assoc a b (drop (length a + length b) xs))
-    ∙ ap (λ (k : ℕ). (a ++ b) ++ drop k xs) (sym (length-append a b))
+-- a piece behind a piece is both of them
+pub put-next : (xs : List ℕ) (at : ℕ) (ys zs : List ℕ) → at ≤ length xs → put (put xs at ys) (at + length ys) zs ≡ put xs at (ys ++ zs)
+put-next xs at ys zs h =
+    let l : length (take at xs) ≡ at = length-take-le at xs (omega arith) in
+    let a : take (at + length ys) (put xs at ys) ≡ take at xs ++ ys
+    = ap (λ (k : ℕ). take (k + length ys) (put xs at ys)) (sym l) ∙ take-append-add (take at xs) (ys ++ drop (length ys) (drop at xs)) (length ys)
+    ∙ ap (λ (x : List ℕ). take at xs ++ x) (take-append-seam ys (drop (length ys) (drop at xs))) in
+    let b : drop (at + length ys) (put xs at ys) ≡ drop (length ys) (drop at xs)
+    = ap (λ (k : ℕ). drop (k + length ys) (put xs at ys)) (sym l) ∙ drop-append-add (take at xs) (ys ++ drop (length ys) (drop at xs)) (length ys)
+    ∙ drop-append-seam ys (drop (length ys) (drop at xs)) in
+    ap₂ (λ (x y : List ℕ). x ++ (zs ++ drop (length zs) y)) a b
+    ∙ append-assoc (take at xs) ys (zs ++ drop (length zs) (drop (length ys) (drop at xs)))
+    ∙ ap (λ (x : List ℕ). take at xs ++ x) (sym (append-assoc ys zs (drop (length zs) (drop (length ys) (drop at xs)))))
+    ∙ ap (λ (x : List ℕ). take at xs ++ ((ys ++ zs) ++ x)) (drop-drop (length zs) (length ys) (drop at xs) ∙ ap (λ (k : ℕ). drop k (drop at xs)) (sym (length-append ys zs)))
 
 -- `cur` is the list xs with a, of length `at`, at its front
 pub record Front (xs a : List ℕ) (at : ℕ) (cur : List ℕ) : Type 0 where
@@ -38,9 +46,12 @@ module _ {xs a cur : List ℕ} {at : ℕ} (f : Front xs a at cur) where
       f .made ∙ ap (λ (l : List ℕ). a ++ l) (drop-of-length-le xs h) ∙ append-nil a
 
   module _ (b : List ℕ) (n : ℕ) (l : length b ≡ n) (h : at + n ≤ length xs) where
+    start : at ≡ 0 + length a
+    start = omega (arith, f .long)
+
     pub front-put : Front xs (a ++ b) (at + n) (put cur at b)
     front-put = record {
-      made = ap₂ (λ (c : List ℕ) (k : ℕ). put c k b) (f .made) (sym (f .long)) ∙ put-more xs a b;
+      made = ap₂ (λ (c : List ℕ) (k : ℕ). put c k b) (f .made) start ∙ put-next xs 0 a b (omega arith);
       long = length-append a b ∙ ap₂ _+_ (f .long) l;
       room = h;
     }

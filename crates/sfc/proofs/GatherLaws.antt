@@ -25,6 +25,8 @@ use Rattle.cauchy.specs.Decode.{held, missing, missingData, rank, foundWords, d
 use Rattle.cauchy.proofs.BlockLaws.{length-wordBytes}
 use Rattle.cauchy.proofs.Known.{length-held, held-one, held-none, held-take, missing-at}
 use Rattle.cauchy.proofs.ListLaws.{missing-more, missing-same}
+use Rattle.sfc.proofs.HeaderLaws.{copied}
+use Rattle.sfc.proofs.FillLaws.{put-next}
 use Rattle.sfc.proofs.HeldLaws.{decode-held, length-decode}
 use Rattle.sfc.specs.Gather.{Restored, Cut}
 
@@ -139,8 +141,7 @@ pub copied-in : (xs src ys : List ℕ) (at count : ℕ) → at + count ≤ lengt
     → take at xs ++ (ys ++ drop (at + count - at) (drop at xs)) ≡ put xs at src
 copied-in xs src ys at count h l e =
     let c : at + count - at ≡ count = omega arith in
-    let d : drop (length src) (part xs at (at + count - at)) ≡ [] = drop-of-length-le (part xs at (at + count - at)) {i = length src} (omega (arith, l, cut-long xs at count h)) in
-    ap (λ (x : List ℕ). take at xs ++ (x ++ drop (at + count - at) (drop at xs))) (e ∙ ap₂ (λ (x y : List ℕ). x ++ y) (take-length src) d ∙ append-nil src)
+    ap (λ (x : List ℕ). take at xs ++ (x ++ drop (at + count - at) (drop at xs))) (e ∙ copied src (part xs at (at + count - at)) (cut-long xs at count h ∙ sym l))
     ∙ lent xs src at (at + count - at) (l ∙ sym c)
 
 pub block-small : (size n s : ℕ) → Cut size n s → (j : ℕ) → j < n → j * s + s ≤ 2 ^ 32
@@ -252,20 +253,6 @@ feeding-end size n m s marks store state row j h small f =
 put-none : (xs : List ℕ) (at : ℕ) → put xs at [] ≡ xs
 put-none xs at = take-append-drop at xs
 
-put-next : (xs : List ℕ) (at : ℕ) (ys zs : List ℕ) → at + length ys ≤ length xs → put (put xs at ys) (at + length ys) zs ≡ put xs at (ys ++ zs)
-put-next xs at ys zs h =
-    let l : length (take at xs) ≡ at = length-take-le at xs (omega arith) in
-    let a : take (at + length ys) (put xs at ys) ≡ take at xs ++ ys
-    = ap (λ (k : ℕ). take (k + length ys) (put xs at ys)) (sym l) ∙ take-append-add (take at xs) (ys ++ drop (length ys) (drop at xs)) (length ys)
-    ∙ ap (λ (x : List ℕ). take at xs ++ x) (take-append-seam ys (drop (length ys) (drop at xs))) in
-    let b : drop (at + length ys) (put xs at ys) ≡ drop (length ys) (drop at xs)
-    = ap (λ (k : ℕ). drop (k + length ys) (put xs at ys)) (sym l) ∙ drop-append-add (take at xs) (ys ++ drop (length ys) (drop at xs)) (length ys)
-    ∙ drop-append-seam ys (drop (length ys) (drop at xs)) in
-    ap₂ (λ (x y : List ℕ). x ++ (zs ++ drop (length zs) y)) a b
-    ∙ append-assoc (take at xs) ys (zs ++ drop (length zs) (drop (length ys) (drop at xs)))
-    ∙ ap (λ (x : List ℕ). take at xs ++ x) (sym (append-assoc ys zs (drop (length zs) (drop (length ys) (drop at xs)))))
-    ∙ ap (λ (x : List ℕ). take at xs ++ ((ys ++ zs) ++ x)) (drop-drop (length zs) (length ys) (drop at xs) ∙ ap (λ (k : ℕ). drop k (drop at xs)) (sym (length-append ys zs)))
-
 pub record Copying (size n m s : ℕ) (marks store out₀ out : List ℕ) (row j : ℕ) : Type 0 where
   pub to : j ≤ n
   pub row-is : row ≡ rank j marks
@@ -294,7 +281,7 @@ copying-put size n m s marks store out₀ out row j p l h k e f row′ r b = rec
     R = rest size n m s marks store (j + 1)
 
     whole : length p ≡ s → put (put out (j * s) p) ((j + 1) * s) R ≡ put out (j * s) (p ++ R)
-    whole q = let w : (j + 1) * s ≡ j * s + length p = omega arith in ap (λ (i : ℕ). put (put out (j * s) p) i R) w ∙ put-next out (j * s) p R l
+    whole q = let w : (j + 1) * s ≡ j * s + length p = omega arith in ap (λ (i : ℕ). put (put out (j * s) p) i R) w ∙ put-next out (j * s) p R (omega (arith, l))
 
     last : R ≡ [] → put (put out (j * s) p) ((j + 1) * s) R ≡ put out (j * s) (p ++ R)
     last q =

@@ -4,7 +4,7 @@ use mathlib.Core.Path.{_≡_, refl, sym, _∙_, ap, subst}
 use mathlib.Core.Bool.{Bool, true, false, cond, not, _&&_, _||_}
 use mathlib.Core.List.{List, [], _∷_, _++_}
 use native.Mathlib.Omega.{arith}
-use native.Mathlib.Nat.{mul-le-mul, mul-le-mul-right, div-add-mod'}
+use native.Mathlib.Nat.{mul-le-mul, mul-le-mul-right}
 use borrow.Author.Tests.{eq-eqb, ne-eqb, le-ltb, ltb-false, eqb-true, not-false}
 use lib.Dec.{eqb, ltb, leb}
 use lib.ListN.{length, getD, take, drop, replicate}
@@ -19,7 +19,6 @@ use Rattle.cauchy.proofs.Decoded.{decodes}
 use Rattle.cauchy.proofs.EndLaws.{enough}
 use Rattle.cauchy.proofs.Known.{length-held, length-missing}
 use Rattle.sfc.specs.Bytes.{zeros, same}
-use Rattle.sfc.specs.Limits.{wantedBlocks}
 use Rattle.sfc.specs.Marks.{isHeld, heldCount}
 use Rattle.sfc.specs.Numbers.{Answered}
 use Rattle.sfc.specs.Chunk.{number, place}
@@ -34,10 +33,10 @@ use Rattle.sfc.specs.declared.handout.HandedOut.the-variants.{Complete, 
 use Rattle.sfc.specs.declared.prefix.Given.{Given}
 use Rattle.sfc.specs.declared.prefix.Given.the-variants.{Unverified, Refused as RefusedGiven}
 use Rattle.sfc.proofs.HeaderLaws.{or-false}
-use Rattle.sfc.proofs.LimitLaws.{wanted-none, wanted-some}
+use Rattle.sfc.proofs.LimitLaws.{wanted-holds}
 use Rattle.sfc.proofs.MarkLaws.{RightShape}
 use Rattle.sfc.proofs.SessionLaws.{RightLent, right-lent}
-use Rattle.sfc.proofs.HeldLaws.{held-holding, wanted-hold, decode-held}
+use Rattle.sfc.proofs.HeldLaws.{held-holding, decode-held}
 use Rattle.sfc.proofs.GatherLaws.{rank-place, cut-long}
 
 -- ---- 71
@@ -79,19 +78,11 @@ right-rebuild h store marks l e =
     }
 
 -- only the last block is cut
-wanted-least : (size s : ℕ) → 0 < s → (wantedBlocks size s - 1) * s ≤ size
-wanted-least zero s h = let v : wantedBlocks 0 s - 1 ≡ 0 = omega (arith, wanted-none 0 s refl) in omega (arith, ap (λ (x : ℕ). x * s) v)
-wanted-least (suc k) s h =
-    let e : suc k - 1 ≡ k = omega arith in
-    let w : k / s + 1 ≡ wantedBlocks (suc k) s = rw e at (wanted-some (suc k) s (λ z. omega arith) (λ z. omega arith)) in
-    let v : wantedBlocks (suc k) s - 1 ≡ k / s = omega arith in
-    omega (arith, ap (λ (x : ℕ). x * s) v, div-add-mod' k s)
-
 pub cut-right : (size n m s : ℕ) → RightShape size n m s → Cut size n s
 cut-right size n m s r = record {
   some = r .n-least;
-  most = omega (arith, wanted-hold size s (omega (arith, r .s-least)), ap (λ (x : ℕ). x * s) (r .wanted));
-  least = omega (arith, wanted-least size s (omega (arith, r .s-least)), ap (λ (x : ℕ). (x - 1) * s) (r .wanted));
+  most = omega (arith, wanted-holds size s (omega (arith, r .s-least)) .1, ap (λ (x : ℕ). x * s) (r .wanted));
+  least = omega (arith, wanted-holds size s (omega (arith, r .s-least)) .0, ap (λ (x : ℕ). (x - 1) * s) (r .wanted));
   small = omega (arith, r .small, mul-le-mul-right {m = n} {n = n + m} s (omega arith));
 }
 

@@ -4,7 +4,6 @@ use Prim.Native.Nat.{ℕ, zero, suc, _+_, _-_, _*_, _/_, _%_, _<_, _≤_}
 use mathlib.Core.Path.{_≡_, refl, ap, _∙_}
 use mathlib.Core.Bool.{Bool, true, false, cond}
 use mathlib.Core.List.{List, [], _∷_, _++_}
-use native.Mathlib.Nat.{mod-lt, div-add-mod'}
 use native.Mathlib.Omega.{arith}
 use borrow.Author.Tests.{eq-eqb}
 use lib.Dec.{eqb}
@@ -17,12 +16,12 @@ use Rattle.cauchy.specs.Code.{joined, wordBytes, Held}
 use Rattle.cauchy.specs.Decode.{held, count, holding, rank, foundWords, decode, decoded}
 use Rattle.cauchy.specs.Theorems.{Shape}
 use Rattle.cauchy.proofs.BlockLaws.{length-wordBytes}
-use Rattle.sfc.specs.Limits.{wantedBlocks}
 use Rattle.sfc.specs.Marks.{isHeld, heldCount}
 use Rattle.sfc.specs.Session.{lentWrong}
 use Rattle.sfc.specs.HandOut.{contentOf}
 use Rattle.sfc.specs.declared.header.Head.{Head}
-use Rattle.sfc.proofs.LimitLaws.{wanted-some}
+use Rattle.sfc.proofs.LimitLaws.{wanted-holds}
+use Rattle.sfc.proofs.LengthLaws.{length-joined}
 use Rattle.sfc.proofs.SessionLaws.{right-lent}
 
 -- V is counted alike above and below
@@ -61,17 +60,10 @@ length-decode n m s marks store j even long hj = go (eqb (getD marks j 0) 1)
     go true = length-block s (n + m) store long j (omega arith)
     go false = length-wordBytes (λ w. getD (foundWords n m s marks store w) (rank j marks) 0) 0 (s / 2) ∙ omega arith
 
-length-joined : (s : ℕ) (f : ℕ → List ℕ) (c k : ℕ) → ((j : ℕ) → c ≤ j → j < c + k → length (f j) ≡ s) → length (joined f c k) ≡ k * s
-unfolding joined
-length-joined s f c zero long = omega arith
-length-joined s f c (suc k) long =
-    length-append (f c) (joined f (suc c) k)
-    ∙ omega (arith, long c (omega arith) (omega arith), length-joined s f (suc c) k (λ j a b. long j (omega arith) (omega arith)))
-
 pub length-decoded : (n m s : ℕ) (marks store : List ℕ) → s % 2 ≡ 0 → length store ≡ (n + m) * s → length (decoded n m s marks store) ≡ n * s
 unfolding decoded
 length-decoded n m s marks store even long =
-    length-joined s (λ j. decode n m s marks store j) 0 n (λ j a b. length-decode n m s marks store j even long (omega arith))
+    length-joined (λ j. decode n m s marks store j) 0 n s (λ j h. length-decode n m s marks store (0 + j) even long (omega arith))
 
 -- ---- a block of what is decoded
 
@@ -97,14 +89,6 @@ block-decoded n m s marks store j even long q =
 
 -- ---- the content
 
--- the blocks that a size wants hold it
-pub wanted-hold : (size s : ℕ) → 0 < s → size ≤ wantedBlocks size s * s
-wanted-hold zero s h = omega arith
-wanted-hold (suc k) s h =
-    let e : suc k - 1 ≡ k = omega arith in
-    let w : k / s + 1 ≡ wantedBlocks (suc k) s = rw e at (wanted-some (suc k) s (λ z. omega arith) (λ z. omega arith)) in
-    omega (arith, ap (λ (x : ℕ). x * s) w, div-add-mod' k s, mod-lt k h)
-
 pub length-content : (h : Head) (store marks : List ℕ) → lentWrong (h .size) (h .n) (h .m) (h .s) store marks ≡ false → length (contentOf h store marks) ≡ h .size
 unfolding contentOf
 length-content h store marks e =
@@ -113,6 +97,6 @@ length-content h store marks e =
     (omega (
       arith,
       length-decoded (h .n) (h .m) (h .s) marks store (r .shape .s-even) (r .store-long),
-      wanted-hold (h .size) (h .s) (omega (arith, r .shape .s-least)),
+      wanted-holds (h .size) (h .s) (omega (arith, r .shape .s-least)) .1,
       ap (λ (x : ℕ). x * h .s) (r .shape .wanted),
     ))

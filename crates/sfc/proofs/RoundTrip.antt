@@ -42,7 +42,7 @@ use Rattle.sfc.proofs.MarkLaws.{RightShape, right-shape}
 use Rattle.sfc.proofs.SessionLaws.{RightLent, right-lent, verdict-fresh, verdict-repeat}
 use Rattle.sfc.proofs.HistoryLaws.{after-tallies, total-counted, not-full}
 use Rattle.sfc.proofs.OfferLaws.{one-offer}
-use Rattle.sfc.proofs.HeldLaws.{wanted-hold}
+use Rattle.sfc.proofs.LimitLaws.{wanted-holds}
 use Rattle.sfc.proofs.RightLaws.{bytes-append, bytes-zeros, bytes-part, zero-at, blank-right, after-right}
 use Rattle.sfc.proofs.Demand3.{demand3}
 use Rattle.sfc.proofs.LayoutLaws.{length-padded}
@@ -79,7 +79,7 @@ module _ (w : Input) (u : length (w .uuid) ≡ 16) (sh : shapeWrong (size w) (bl
 
   length-data : length (dataOf w) ≡ blocks w * w .s
   unfolding dataOf
-  length-data = length-padded (blocks w * w .s) (w .content) (wanted-hold (size w) (w .s) (omega (arith, right .s-least)))
+  length-data = length-padded (blocks w * w .s) (w .content) (wanted-holds (size w) (w .s) (omega (arith, right .s-least)) .1)
 
   bytes-data : Bytes (w .content) → Bytes (dataOf w)
   unfolding dataOf
