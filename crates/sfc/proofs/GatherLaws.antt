@@ -176,8 +176,11 @@ module _ (size n m s : ℕ) (marks store scratch : List ℕ) (w : Cut size n s �
   pub cut-most : length (take count (decode n m s marks store j)) ≤ s
   cut-most = omega (arith, length-take-most count (decode n m s marks store j), count-most)
 
+  pub block-in-store : j * s + s ≤ length store
+  block-in-store = omega (arith, w .1 .store-long, block-inside s n j h)
+
   pub in-store : j * s + count ≤ length store
-  in-store = omega (arith, w .1 .store-long, block-inside s n j h, count-most)
+  in-store = omega (arith, block-in-store, count-most)
 
   pub in-cut : j * s + count ≤ size
   in-cut = omega (arith, before-end size n s (w .0) j h, least-second count s (size - j * s) least)
@@ -206,9 +209,9 @@ module _ (size n m s : ℕ) (marks store scratch : List ℕ) (w : Cut size n s �
         cut-block scratch row s count count-most
         ∙ ap (take count) (w .1 .found row (at-row .1) ∙ ap (λ (i : ℕ). decode n m s marks store i) (at-row .0))
 
--- a part is no longer than was asked for
-pub length-cut : (xs : List ℕ) (at k : ℕ) → length (part xs at k) ≤ k
-length-cut xs at k = length-take-most k (drop at xs)
+-- a part is no longer than was asked for, and so few bytes may be fed
+pub few-enough : (xs : List ℕ) (at k fed most : ℕ) → fed + k ≤ most → fed + length (part xs at k) ≤ most
+few-enough xs at k fed most h = omega (arith, length-take-most k (drop at xs))
 
 -- ---- hashing: what is fed and what is still to be fed make up the content
 

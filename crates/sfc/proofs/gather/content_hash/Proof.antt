@@ -7,7 +7,7 @@ use native.Mathlib.Omega.{arith}
 use lib.ListN.{length, take}
 use Rattle.blake3.specs.Running.{withBytes}
 use Rattle.blake3.specs.declared.running.Finished.{Finished}
-use Rattle.sfc.proofs.GatherLaws.{Feeding, feeding-start, feeding-next, feeding-end, block-small, before-end, count-most, next-from, in-store, held-part, in-scratch, lost-part, length-cut, cut-most, rank-held, rank-lost}
+use Rattle.sfc.proofs.GatherLaws.{Feeding, feeding-start, feeding-next, feeding-end, block-small, before-end, count-most, next-from, block-in-store, held-part, in-scratch, lost-part, few-enough, cut-most, rank-held, rank-lost}
 use borrow.Author.Needs.{needs}
 use Rattle.sfc.proofs.gather.content_hash.Statement.{statement}
 use Rattle.sfc.proofs.gather.content_hash.Tie as tie
@@ -57,14 +57,14 @@ part-with-part-end c =
     let a = c .before .before .before .before .before .before .before .before .before .args in
     let p = c .before .before .before .before .before .before .before .before .before .pre in
     let l = c .before .before .before .before .loop in
-    in-store (a .size) (a .n) (a .m) (a .s) (a .marks .now) (a .store .now) (a .scratch .now) p (l .j) (c .before .before .before .loop-test .taken) (c .before .before .least .result) (c .before .before .least .ensures)
+    omega (arith, block-in-store (a .size) (a .n) (a .m) (a .s) (a .marks .now) (a .store .now) (a .scratch .now) p (l .j) (c .before .before .before .loop-test .taken) (c .before .before .least .result) (c .before .before .least .ensures), count-most (a .size) (a .n) (a .m) (a .s) (a .marks .now) (a .store .now) (a .scratch .now) p (l .j) (c .before .before .before .loop-test .taken) (c .before .before .least .result) (c .before .before .least .ensures))
 
 with-part-requires : tie.Need-with-part-requires Inv-loop μ-loop
 with-part-requires c κs =
     let a = c .before .before .before .before .before .before .before .before .before .before .args in
     let p = c .before .before .before .before .before .before .before .before .before .before .pre in
     let l = c .before .before .before .before .before .loop in
-    omega (arith, l .inv .few, length-cut (a .store .now) (l .j * a .s) (l .j * a .s + c .before .before .before .least .result - l .j * a .s), block-small (a .size) (a .n) (a .s) (p .0) (l .j) (c .before .before .before .before .loop-test .taken), count-most (a .size) (a .n) (a .m) (a .s) (a .marks .now) (a .store .now) (a .scratch .now) p (l .j) (c .before .before .before .before .loop-test .taken) (c .before .before .before .least .result) (c .before .before .before .least .ensures))
+    few-enough (a .store .now) (l .j * a .s) (l .j * a .s + c .before .before .before .least .result - l .j * a .s) (l .state .fed) _ (omega (arith, l .inv .few, block-small (a .size) (a .n) (a .s) (p .0) (l .j) (c .before .before .before .before .loop-test .taken), count-most (a .size) (a .n) (a .m) (a .s) (a .marks .now) (a .store .now) (a .scratch .now) p (l .j) (c .before .before .before .before .loop-test .taken) (c .before .before .before .least .result) (c .before .before .before .least .ensures)))
 
 mul-from : tie.Need-mul-from Inv-loop μ-loop
 mul-from c =
@@ -92,7 +92,7 @@ with-part-requires-2 c κs =
     let a = c .before .before .before .before .before .before .before .before .before .before .args in
     let p = c .before .before .before .before .before .before .before .before .before .before .pre in
     let l = c .before .before .before .before .before .loop in
-    omega (arith, l .inv .few, length-cut (a .scratch .now) (l .row * a .s) (l .row * a .s + c .before .before .before .least .result - l .row * a .s), block-small (a .size) (a .n) (a .s) (p .0) (l .j) (c .before .before .before .before .loop-test .taken), count-most (a .size) (a .n) (a .m) (a .s) (a .marks .now) (a .store .now) (a .scratch .now) p (l .j) (c .before .before .before .before .loop-test .taken) (c .before .before .before .least .result) (c .before .before .before .least .ensures))
+    few-enough (a .scratch .now) (l .row * a .s) (l .row * a .s + c .before .before .before .least .result - l .row * a .s) (l .state .fed) _ (omega (arith, l .inv .few, block-small (a .size) (a .n) (a .s) (p .0) (l .j) (c .before .before .before .before .loop-test .taken), count-most (a .size) (a .n) (a .m) (a .s) (a .marks .now) (a .store .now) (a .scratch .now) p (l .j) (c .before .before .before .before .loop-test .taken) (c .before .before .before .least .result) (c .before .before .before .least .ensures)))
 
 add-row : tie.Need-add-row Inv-loop μ-loop
 add-row c =
