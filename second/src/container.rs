@@ -1,7 +1,5 @@
-//! The container as the paper has it, for comparison: a text is taken apart from its front, field by field, and whole files
-//! are laid together for test material.
+//! The container as the paper has it, for comparison: a text is taken apart from its front, field by field.
 use crate::blake3::hash;
-use crate::field::{inverse, mul};
 use std::collections::BTreeSet;
 
 /// What an accepted header says. The name is cut before its first zero.
@@ -21,6 +19,9 @@ pub struct Head {
     pub flags: u64,
     pub priorities: u64,
 }
+
+/// What H may be.
+pub const LENGTHS: std::ops::RangeInclusive<u64> = 331..=65_536;
 
 /// What is left of a text that is read from its front.
 struct Rest<'a>(&'a [u8]);
@@ -42,7 +43,7 @@ impl<'a> Rest<'a> {
 }
 
 /// Refused with a number unless the fact holds.
-fn must(fact: bool, number: u8) -> Result<(), u8> {
+pub fn must(fact: bool, number: u8) -> Result<(), u8> {
     fact.then_some(()).ok_or(number)
 }
 
@@ -57,7 +58,7 @@ pub fn read_header(input: &[u8]) -> Result<Head, u8> {
     let length = Rest(fields).number(4).ok_or(10)?;
     must(preamble[..4] == [0x53, 0x46, 0x43, 0x00], 11)?;
     must(preamble[4..] == [0, 0, 1, 0], 12)?;
-    must((331..=65_536).contains(&length), 13)?;
+    must(LENGTHS.contains(&length), 13)?;
     // the region is the length field and as many bytes as it says
     let region = Rest(fields).bytes(4 + length).ok_or(10)?;
     fields = &fields[region.len()..];
@@ -67,7 +68,8 @@ pub fn read_header(input: &[u8]) -> Result<Head, u8> {
     Ok(head)
 }
 
-fn read_region(region: &[u8]) -> Result<Head, u8> {
+/// 14 to 21, of a header region that has its fixed fields.
+pub fn read_region(region: &[u8]) -> Result<Head, u8> {
     let mut rest = Rest(region);
     let head = fixed_fields(&mut rest).expect("a region has at least 335 bytes");
     check_numbers(&head)?;
@@ -158,7 +160,7 @@ fn check_extension(head: &Head, rest: &mut Rest) -> Result<(), u8> {
 pub fn find_field(input: &[u8], wanted: u64) -> Option<(usize, u64)> {
     let mut rest = Rest(input);
     rest.bytes(8)?;
-    let length = Rest(rest.0).number(4).filter(|length| (331..=65_536).contains(length))?;
+    let length = Rest(rest.0).number(4).filter(|length| LENGTHS.contains(length))?;
     rest.0 = &rest.0[..rest.0.len().min(4 + length as usize)];
     let region_end = 8 + rest.0.len();
     let priorities = fixed_fields(&mut rest)?.priorities;
@@ -205,107 +207,4 @@ pub fn check_chunk<'a>(head: &Head, input: &'a [u8]) -> Result<(u64, &'a [u8]), 
     must((compression, erasure) == (head.compression, head.erasure), 39)?;
     must(length == head.s, 40)?;
     Ok((index, payload))
-}
-
-/// What a writer is given. A field is a tag and a value.
-#[derive(Clone, Default)]
-pub struct Plan {
-    pub content: Vec<u8>,
-    pub s: u32,
-    pub m: u32,
-    pub uuid: [u8; 16],
-    pub time: u64,
-    pub format: u16,
-    pub name: Vec<u8>,
-    pub flags: u16,
-    pub priorities: Vec<u32>,
-    pub fields: Vec<(u16, Vec<u8>)>,
-}
-
-impl Plan {
-    fn erasure(&self) -> u8 {
-        u8::from(self.m > 0)
-    }
-
-    /// The data blocks, the last filled up with zeros; one block of zeros for no content.
-    fn data_blocks(&self) -> Vec<Vec<u8>> {
-        let size = self.s as usize;
-        let mut padded = self.content.clone();
-        padded.resize(padded.len().div_ceil(size).max(1) * size, 0);
-        padded.chunks(size).map(<[u8]>::to_vec).collect()
-    }
-
-    pub fn region(&self) -> Vec<u8> {
-        let mut name = self.name.clone();
-        name.resize(255, 0);
-        let mut body = self.uuid.to_vec();
-        body.extend((self.content.len() as u64).to_le_bytes());
-        body.extend(self.format.to_le_bytes());
-        body.extend(name);
-        body.extend(hash(&self.content));
-        for number in [self.data_blocks().len() as u32, self.m, self.s] {
-            body.extend(number.to_le_bytes());
-        }
-        body.extend([self.erasure(), 0]);
-        body.extend(self.flags.to_le_bytes());
-        body.extend((self.priorities.len() as u16).to_le_bytes());
-        body.extend(self.priorities.iter().flat_map(|index| index.to_le_bytes()));
-        for (tag, value) in &self.fields {
-            body.extend(tag.to_le_bytes());
-            body.extend((value.len() as u32).to_le_bytes());
-            body.extend(value);
-        }
-        [(body.len() as u32).to_le_bytes().to_vec(), body].concat()
-    }
-
-    fn chunk(&self, index: usize, kind: u32, payload: &[u8]) -> Vec<u8> {
-        let mut chunk = b"CHK\0".to_vec();
-        chunk.extend(self.uuid);
-        for number in [index as u32, kind, payload.len() as u32] {
-            chunk.extend(number.to_le_bytes());
-        }
-        chunk.extend([0, self.erasure()]);
-        chunk.extend([0; 14]);
-        chunk.extend(payload);
-        let sealed = hash(&chunk);
-        [&chunk[..], &sealed, b"/CHK"].concat()
-    }
-
-    /// The chunks of the file, rising by index.
-    pub fn chunks(&self) -> Vec<Vec<u8>> {
-        let data = self.data_blocks();
-        let recovery = (0..self.m as usize).map(|k| recovery_block(&data, self.m as usize, k));
-        let kinds = data.iter().map(|_| 1).chain(std::iter::repeat(2));
-        let blocks: Vec<Vec<u8>> = data.iter().cloned().chain(recovery).collect();
-        blocks.iter().zip(kinds).enumerate().map(|(index, (block, kind))| self.chunk(index, kind, block)).collect()
-    }
-
-    /// A file with some of its chunks, or any other bytes, between region and trailer.
-    pub fn file_around(&self, middle: &[u8]) -> Vec<u8> {
-        let region = self.region();
-        let mut file = b"SFC\0\0\0\x01\0".to_vec();
-        file.extend(&region);
-        file.extend(middle);
-        file.extend(b"TRLR\0\0\0\0");
-        file.extend(hash(&region));
-        file.extend(self.time.to_le_bytes());
-        file.extend([0; 16]);
-        file
-    }
-
-    pub fn file(&self) -> Vec<u8> {
-        self.file_around(&self.chunks().concat())
-    }
-}
-
-/// Recovery block k: each word is the sum of the data blocks' words there, each times its weight.
-fn recovery_block(data: &[Vec<u8>], m: usize, k: usize) -> Vec<u8> {
-    let mut sums = vec![0u16; data[0].len() / 2];
-    for (j, block) in data.iter().enumerate() {
-        let weight = inverse((k ^ (m + j)) as u16);
-        for (sum, word) in sums.iter_mut().zip(block.chunks(2)) {
-            *sum ^= mul(weight, u16::from_le_bytes([word[0], word[1]]));
-        }
-    }
-    sums.into_iter().flat_map(u16::to_le_bytes).collect()
 }

@@ -6,13 +6,19 @@ mod code_vectors;
 mod container;
 mod field;
 mod field_vectors;
+mod flood;
+mod hand_out;
+mod listing;
 mod note;
 mod probe;
 mod probe_cases;
 mod session;
+mod writer;
 
-const USAGE: &str = "usage: second PROGRAM, where PROGRAM is gf16_vectors, blake3_vectors, cauchy_vectors or sfc_probe;
-       second cases sfc_probe, for the input that the probe is run on;
+const USAGE: &str =
+    "usage: second PROGRAM, where PROGRAM is gf16_vectors, blake3_vectors, cauchy_vectors, sfc_probe or sfc_list;
+       second cases PROGRAM, for the input that sfc_probe or sfc_list is run on;
+       second flood SEED COUNT, for frames of that many spoilt files, the same for the same seed;
        second hash LENGTH, for the BLAKE3 hash of so many bytes i mod 251";
 
 fn main() {
@@ -23,7 +29,12 @@ fn main() {
         ["blake3_vectors"] => blake3::print_vectors(),
         ["cauchy_vectors"] => code_vectors::print(),
         ["sfc_probe"] => probe::print(),
+        ["sfc_list"] => listing::print(),
         ["cases", "sfc_probe"] => probe_cases::write(),
+        ["cases", "sfc_list"] => listing::write_case(),
+        ["flood", seed, count] => {
+            flood::write(seed.parse().expect("SEED is a number"), count.parse().expect("COUNT is a number"));
+        }
         ["hash", length] => {
             let length = length.parse().expect("LENGTH is a number");
             println!("{}", blake3::hex(&blake3::hash(&blake3::pattern(length))));

@@ -1,17 +1,21 @@
 //! What a session knows, from its marks alone: the prefix, the missing list, and the resend note both ways.
 use crate::container::{is_shape_lawful, Head};
 
-const HELD: u8 = 1;
+pub const HELD: u8 = 1;
 
 /// Whether the numbers pass 14 and 15, and there is a mark of at most 2 for each block.
-pub fn are_marks_right(head: &Head, marks: &[u8]) -> bool {
+fn are_marks_right(head: &Head, marks: &[u8]) -> bool {
     is_shape_lawful(head) && marks.len() as u64 == head.n + head.m && marks.iter().max() <= Some(&2)
+}
+
+/// Whether the marks are right, and the store has a place for each block.
+pub fn is_lent_right(head: &Head, store: &[u8], marks: &[u8]) -> bool {
+    are_marks_right(head, marks) && store.len() as u64 == (head.n + head.m) * head.s
 }
 
 /// The data blocks before the first that is not held: how many, and their bytes up to the size.
 pub fn prefix(head: &Head, store: &[u8], marks: &[u8]) -> Result<(usize, Vec<u8>), u8> {
-    let blocks = head.n + head.m;
-    if !are_marks_right(head, marks) || store.len() as u64 != blocks * head.s {
+    if !is_lent_right(head, store, marks) {
         return Err(71);
     }
     let data = store.chunks(head.s as usize).zip(marks).take(head.n as usize);

@@ -1,8 +1,12 @@
 //! What the program sfc_probe prints for the same frames, which crates/sfc_probe/src/frame.rt describes.
+mod hand_outs;
+mod writes;
+
 use crate::blake3::{hash, hex};
 use crate::container::{check_chunk, find_field, read_header, Head};
 use crate::note::{missing, note, prefix, ranges, read_note};
 use crate::session::Session;
+use hand_outs::Call;
 use std::io::Read;
 
 pub const SAY: u8 = 1;
@@ -10,6 +14,7 @@ pub const LOAD: u8 = 10;
 pub const KEEP: u8 = 11;
 pub const RESTORE: u8 = 12;
 pub const CUT: u8 = 13;
+pub const GROW: u8 = 14;
 pub const SET_BYTE: u8 = 20;
 pub const SET_16: u8 = 21;
 pub const SET_32: u8 = 22;
@@ -30,16 +35,24 @@ pub const SET_TALLY: u8 = 51;
 pub const OFFER: u8 = 52;
 pub const SHOW: u8 = 53;
 pub const LEND: u8 = 54;
+pub const SCRATCH: u8 = 55;
 pub const PREFIX: u8 = 60;
 pub const LIST_MISSING: u8 = 61;
 pub const WRITE_NOTE: u8 = 62;
 pub const READ_NOTE: u8 = 63;
 pub const NOTE_VALUES: u8 = 64;
 pub const NOTE_LENGTHS: u8 = 65;
+pub const HAND_OUT: u8 = 70;
+pub const BLOCK: u8 = 71;
+pub const WRITE: u8 = 72;
+pub const HAND_OUT_SETS: u8 = 73;
+pub const BLOCK_SETS: u8 = 74;
 
 /// The most bytes that a file has here, and a printed line.
 const ROOM: usize = 65_536;
 const LINE: usize = 4_096;
+/// The longest output of a hand-out, a block request or a writer that is shown byte by byte.
+const SHOWN: usize = 64;
 /// The most marks of a session.
 const MARKS: usize = 4_096;
 /// The most numbers of an output.
@@ -74,7 +87,7 @@ fn put(file: &mut [u8], at: usize, bytes: &[u8]) {
     }
 }
 
-fn seal_header(file: &mut [u8]) {
+pub fn seal_header(file: &mut [u8]) {
     let length = number(file.get(8..12).unwrap_or(&[0xff; 4]));
     if length + 76 <= file.len() {
         let sealed = hash(&file[8..12 + length]);
@@ -82,7 +95,7 @@ fn seal_header(file: &mut [u8]) {
     }
 }
 
-fn seal_chunk(chunk: &mut [u8]) {
+pub fn seal_chunk(chunk: &mut [u8]) {
     let length = number(chunk.get(28..32).unwrap_or(&[0xff; 4]));
     if length + 84 <= chunk.len() {
         let sealed = hash(&chunk[..48 + length]);
@@ -142,6 +155,14 @@ fn lent<T: Copy>(given: Result<Vec<T>, u8>, count: usize, pattern: T) -> (Result
     (given.map(|parts| parts.len()), output)
 }
 
+/// Prints a short output byte by byte, and the hash of a longer one.
+fn print_output(output: &[u8]) {
+    match output.len() {
+        0..=SHOWN => print!(" {}", hex(output)),
+        _ => print!(" hash {}", hex(&hash(output))),
+    }
+}
+
 fn numbers(output: &[u32]) -> String {
     output.iter().map(|number| format!(" {number:08x}")).collect()
 }
@@ -160,6 +181,8 @@ struct Probe {
     kept: Vec<u8>,
     head: Head,
     session: Session,
+    /// How many bytes and numbers are lent as scratch.
+    scratch: (usize, usize),
 }
 
 impl Probe {
@@ -180,11 +203,13 @@ impl Probe {
             KEEP => self.kept = self.file.clone(),
             RESTORE => self.file = self.kept.clone(),
             CUT => self.file.truncate(a),
+            GROW => self.file.resize((length + a).min(ROOM), small),
             SET_BYTE => put(&mut self.file, a, &[small]),
             SET_16 => put(&mut self.file, a, &b.to_le_bytes()[..2]),
             SET_32 => put(&mut self.file, a, &b.to_le_bytes()[..4]),
             SEAL_HEADER => seal_header(&mut self.file),
             SEAL_CHUNK => seal_chunk(&mut self.file[a.min(length)..]),
+            WRITE => self.write(a),
             _ => {}
         }
     }
@@ -293,6 +318,18 @@ impl Probe {
         }
     }
 
+    /// Frames that ask for what a session gives back.
+    fn give_back(&self, opcode: u8, small: u8, a: usize, b: usize) {
+        match opcode {
+            HAND_OUT => self.ask_for(Call::HandOut, a),
+            BLOCK => self.ask_for(Call::Block(a), b),
+            HAND_OUT_SETS => self.ask_sets(Call::HandOut, small, b, a),
+            // a byte more than the block, to see that it is left
+            BLOCK_SETS => self.ask_sets(Call::Block(a), small, b, self.head.s as usize + 1),
+            _ => {}
+        }
+    }
+
     /// Frames of a session.
     fn serve(&mut self, opcode: u8, small: u8, a: usize, b: usize) {
         match opcode {
@@ -302,6 +339,7 @@ impl Probe {
                 self.session = Session::new(&self.head, vec![0; a.min(ROOM)], marks);
             }
             LEND => self.lend(a, b),
+            SCRATCH => self.scratch = (a, b),
             SET_TALLY => {
                 if let Some(tally) = self.session.tallies.get_mut(a) {
                     *tally = b as u64;
@@ -354,9 +392,9 @@ pub fn print() {
     std::io::stdin().read_to_end(&mut bytes).expect("standard input can be read");
     let mut input = Input(bytes.into_iter());
     // before a header is read, chunks are held to one of zeros
-    let head = Head { uuid: vec![0; 16], ..Head::default() };
+    let head = Head { uuid: vec![0; 16], hash: vec![0; 32], ..Head::default() };
     let session = Session::new(&head, Vec::new(), Vec::new());
-    let mut probe = Probe { file: Vec::new(), kept: Vec::new(), head, session };
+    let mut probe = Probe { file: Vec::new(), kept: Vec::new(), head, session, scratch: (0, 0) };
     loop {
         let frame = input.take(10);
         if frame.len() < 10 || frame[0] == 0 {
@@ -374,6 +412,7 @@ pub fn print() {
                 probe.ask(opcode, small, a, b);
                 probe.serve(opcode, small, a, b);
                 probe.tell(opcode, a);
+                probe.give_back(opcode, small, a, b);
             }
         }
     }

@@ -1,23 +1,33 @@
 //! The frames that sfc_probe is run on: written files, every field at its bounds, damage in every byte, and the order of the
 //! checks. A title that begins with D names the case of document 001's appendix that it runs.
+mod chance;
 mod chunks;
 mod extensions;
+mod handouts;
 mod headers;
 mod histories;
 mod notes;
 mod script;
 mod sessions;
+mod writes;
 
-use crate::container::Plan;
 use crate::probe::*;
+pub use chance::Chance;
+pub use script::Script;
 use script::*;
 use std::io::Write;
 
-/// A header with H = 65,460, whose file has 65,536 bytes; no field may be longer than 16,384.
-fn largest() -> Vec<u8> {
-    let lengths = [16_384, 16_384, 16_384, 15_953];
-    let fields = lengths.into_iter().enumerate().map(|(i, length)| (0x0200 + i as u16, text(length))).collect();
-    Plan { fields, ..plan(14, 4, 1) }.file_around(&[])
+/// Makes a file of 65,536 bytes with a header of H = 65,460 and no chunk; no field may be longer than 16,384.
+fn largest(script: &mut Script) {
+    let mut at = 343;
+    script.load(&plan(14, 4, 1).file_around(&[])[..at]);
+    script.frame(GROW, 0, 65_536 - at, 0);
+    for (tag, length) in (0x0200..).zip([16_384, 16_384, 16_384, 15_953]) {
+        script.edit(&[Two(at, tag), Four(at + 2, length)]);
+        at += 6 + length;
+    }
+    script.edit(&[Four(8, at - 12), Four(at, usize::from_le_bytes(*b"TRLR\0\0\0\0"))]);
+    script.seal();
 }
 
 /// Frames with numbers that are out of range: as much is done as there is.
@@ -37,6 +47,9 @@ fn harmless(script: &mut Script) {
         script.frame(opcode, 1, most, most);
     }
     script.frame(PREFIX, 0, 3, 0);
+    for opcode in [SCRATCH, HAND_OUT, BLOCK, HAND_OUT_SETS, BLOCK_SETS] {
+        script.frame(opcode, 255, most, most);
+    }
     script.read();
     script.edit(&[Two(846, 0xFFFF), Four(845, most), Byte(847, 1), Two(845, 0)]);
     script.read();
@@ -45,11 +58,9 @@ fn harmless(script: &mut Script) {
     script.frame(SEAL_CHUNK, 0, 0, 0);
     script.read();
     script.check(0, 0);
-    // more is asked for than the buffer holds
-    script.say("the largest header that the buffer holds");
-    let file = largest();
-    script.frame(LOAD, 0, file.len() + 1, 0);
-    script.0.extend(&file);
+    script.say("the largest header that the buffer holds, and a byte more than it holds");
+    largest(script);
+    script.frame(GROW, 1, most, 0);
     script.read();
     script.frame(HEADER_LENGTHS, 0, 65_530, 65_536);
 }
@@ -59,6 +70,7 @@ pub fn write() {
     let parts = [
         chunks::before_a_header,
         notes::before_a_header,
+        handouts::before_a_header,
         headers::written_files,
         headers::numbers_at_bounds,
         headers::identifiers_and_flags,
@@ -89,6 +101,20 @@ pub fn write() {
         notes::damaged_notes,
         notes::ranges_of_notes,
         notes::starts_of_notes,
+        handouts::offered_sessions,
+        handouts::every_withheld_set,
+        handouts::stores_that_fit_no_list,
+        handouts::greatest_losses,
+        handouts::sizes,
+        handouts::wrong_content,
+        handouts::wrong_memory,
+        handouts::wrong_numbers,
+        handouts::order_of_checks,
+        writes::round_trips,
+        writes::numbers,
+        writes::names,
+        writes::lists,
+        writes::fields,
         harmless,
     ];
     let mut script = Script::default();

@@ -1,6 +1,6 @@
 //! A session as what each index has met: no payload, one, or payloads that differ.
 use crate::container::{check_chunk, Head};
-use crate::note::are_marks_right;
+use crate::note::is_lent_right;
 use std::collections::{BTreeMap, BTreeSet};
 
 /// The sum of the tallies at which no further offer is counted.
@@ -37,13 +37,8 @@ impl Session {
         Session { lent_store, lent_marks, met, tallies: [0; 15] }
     }
 
-    fn is_lent_right(&self, head: &Head) -> bool {
-        let length = (head.n + head.m) * head.s;
-        are_marks_right(head, &self.lent_marks) && self.lent_store.len() as u64 == length
-    }
-
     pub fn offer(&mut self, head: &Head, chunk: &[u8]) -> Result<Offered, u8> {
-        if !self.is_lent_right(head) {
+        if !is_lent_right(head, &self.lent_store, &self.lent_marks) {
             return Err(71);
         }
         if self.tallies.iter().sum::<u64>() >= FULL {

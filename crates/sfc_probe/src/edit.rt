@@ -1,6 +1,7 @@
 // Frames that load, keep, cut and change the file.
 use crate::frame;
 use crate::frame::Frame;
+use crate::write;
 use libc::STDIN_FILENO;
 ghost use Prim.Native.Nat.{_≤_};
 ghost use mathlib.Core.Path.{_≡_};
@@ -44,6 +45,18 @@ pub(crate) fn set_all(bytes: &mut [u8], value: u8) {
     }
 }
 
+// Whether each byte is that one.
+pub(crate) fn all_are(bytes: &[u8], value: u8) -> bool {
+    let mut i = 0;
+    while i < bytes.len() {
+        if bytes[i] != value {
+            return false;
+        }
+        i += 1;
+    }
+    true
+}
+
 // Reads up to `count` bytes of input to the front of the buffer, as far as it goes, and answers how many.
 pub(crate) fn fill(count: usize, buffer: &mut [u8]) -> usize
     ensures { λ r. ⌜ Counts r (now (buffer .exit)) ⌝ }
@@ -58,6 +71,18 @@ fn load(count: usize, file: &mut [u8], kept: &mut [u8]) -> Sizes {
     Sizes {
         file: got,
         kept: got,
+    }
+}
+
+// Bytes of one value behind the file's end, as far as the buffer goes.
+fn grow(count: usize, value: u8, sizes: Sizes, file: &mut [u8]) -> Sizes {
+    let start = within(sizes.file, file);
+    let rest = &mut file[start..];
+    let end = within(count, rest);
+    set_all(&mut rest[..end], value);
+    Sizes {
+        file: start + end,
+        kept: sizes.kept,
     }
 }
 
@@ -84,6 +109,8 @@ pub(crate) fn resize(frame: Frame, sizes: Sizes, file: &mut [u8], kept: &mut [u8
             file: least(frame.a as usize, sizes.file),
             kept: sizes.kept,
         },
+        frame::WRITE => write::become_written(frame, sizes, file),
+        frame::GROW => grow(frame.a as usize, frame.small, sizes, file),
         _ => sizes,
     }
 }

@@ -16,6 +16,8 @@ pub(crate) const KEEP: u8 = 11;
 pub(crate) const RESTORE: u8 = 12;
 // The file is cut to its first a bytes.
 pub(crate) const CUT: u8 = 13;
+// The file gets a bytes of the small number behind its end.
+pub(crate) const GROW: u8 = 14;
 
 // Byte a becomes the small number; the two or four bytes from a on become the number b.
 pub(crate) const SET_BYTE: u8 = 20;
@@ -62,6 +64,8 @@ pub(crate) const OFFER: u8 = 52;
 pub(crate) const SHOW: u8 = 53;
 // A session begins with the first b bytes of the file as its marks and the a bytes behind them as its store.
 pub(crate) const LEND: u8 = 54;
+// Later hand-outs and block requests get a scratch of a bytes and b numbers.
+pub(crate) const SCRATCH: u8 = 55;
 
 // The prefix, the missing list or the note of the session is asked for, with an output of a bytes or numbers that have a
 // pattern; all of the output is printed.
@@ -76,6 +80,23 @@ pub(crate) const READ_NOTE: u8 = 63;
 pub(crate) const NOTE_VALUES: u8 = 64;
 
 pub(crate) const NOTE_LENGTHS: u8 = 65;
+
+// The content is asked for, with an output of a bytes; block a is, with an output of b bytes. Output and scratch have a
+// pattern before the call; printed are the output, or its hash where it is long, and what became of the scratch.
+pub(crate) const HAND_OUT: u8 = 70;
+
+pub(crate) const BLOCK: u8 = 71;
+// The same for each of the first b sets of marks: the digits of the set's number, the lowest first, to the base that is the
+// small number. Blocks that are not held have other bytes. The output has a bytes; that of block a has one more than the block.
+// Printed are how many sets were given it, and a digest of all answers and outputs.
+pub(crate) const HAND_OUT_SETS: u8 = 73;
+
+pub(crate) const BLOCK_SETS: u8 = 74;
+
+// A file is written from the inputs that stand in the file, into an output of a bytes that have a pattern, and becomes the
+// file if it is written: S and M (4 bytes each), UUID (16), time (8), format, flags, name length and P (2 each), the fields'
+// length (4); then the name, P indices of 4 bytes, the fields, and all else as content.
+pub(crate) const WRITE: u8 = 72;
 
 pub(crate) struct Frame {
     pub(crate) opcode: u8,

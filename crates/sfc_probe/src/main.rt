@@ -3,12 +3,15 @@
 mod chunk;
 mod edit;
 mod frame;
+mod handout;
 mod header;
 mod known;
 mod note;
 mod print;
 mod run;
 mod session;
+mod sets;
+mod write;
 
 use edit::Sizes;
 use frame::Frame;

@@ -27,6 +27,16 @@ pub(crate) fn bytes(label: &[u8], b: &[u8]) {
     }
 }
 
+// A short output byte by byte, and the hash of a longer one.
+pub(crate) fn output(out: &[u8]) {
+    if out.len() <= 64 {
+        bytes(b" ", out);
+    } else {
+        let hash = blake3::hash(out);
+        bytes(b" hash ", &hash);
+    }
+}
+
 fn eight_digits(number: u32) {
     text(b" ");
     io::print_hex(STDOUT_FILENO, number as u64, 8);

@@ -2,6 +2,8 @@
 use crate::edit;
 use crate::frame;
 use crate::frame::Frame;
+use crate::handout;
+use crate::handout::Scratch;
 use crate::known;
 use crate::print;
 use sfc::header::Head;
@@ -10,10 +12,11 @@ use sfc::session::Verdict;
 use sfc::session::offer;
 use sfc::tallies::Tallies;
 
-// How many bytes of the two buffers are store and marks, and the tallies.
+// How many bytes of the two buffers are store and marks, how much scratch is lent, and the tallies.
 pub(crate) struct Session {
     store: usize,
     marks: usize,
+    scratch: Scratch,
     tallies: Tallies,
 }
 
@@ -21,22 +24,33 @@ pub(crate) fn none() -> Session {
     Session {
         store: 0,
         marks: 0,
+        scratch: Scratch {
+            bytes: 0,
+            numbers: 0,
+        },
         tallies: Tallies::new(),
     }
 }
 
-fn begin(frame: Frame, store: &mut [u8], marks: &mut [u8]) -> Session {
+fn begin(frame: Frame, scratch: Scratch, store: &mut [u8], marks: &mut [u8]) -> Session {
     edit::set_all(store, 0);
     edit::set_all(marks, 0);
     edit::set_byte(marks, 0, frame.small);
     Session {
         store: edit::least(frame.a as usize, store.len()),
         marks: edit::least(frame.b as usize, marks.len()),
+        scratch,
         tallies: Tallies::new(),
     }
 }
 
-fn lend(frame: Frame, store: &mut [u8], marks: &mut [u8], file: &[u8]) -> Session {
+fn lend(
+    frame: Frame,
+    scratch: Scratch,
+    store: &mut [u8],
+    marks: &mut [u8],
+    file: &[u8],
+) -> Session {
     let middle = edit::within(frame.b as usize, file);
     edit::copy(&file[..middle], marks);
     let rest = &file[middle..];
@@ -45,6 +59,7 @@ fn lend(frame: Frame, store: &mut [u8], marks: &mut [u8], file: &[u8]) -> Sessio
     Session {
         store: edit::least(end, store.len()),
         marks: edit::least(middle, marks.len()),
+        scratch,
         tallies: Tallies::new(),
     }
 }
@@ -148,10 +163,17 @@ fn show(tallies: Tallies, store: &[u8], marks: &[u8]) {
     print_tallies(tallies);
 }
 
+// Frames that ask what a session knows or gives back.
+fn ask(frame: Frame, head: Head, scratch: Scratch, store: &[u8], marks: &[u8]) {
+    known::ask(frame, head, store, marks);
+    handout::ask(frame, head, scratch, store, marks);
+}
+
 // A frame on store and marks as long as they are lent.
 fn serve_lent(
     frame: Frame,
     head: Head,
+    scratch: Scratch,
     tallies: Tallies,
     store: &mut [u8],
     marks: &mut [u8],
@@ -166,7 +188,7 @@ fn serve_lent(
             tallies
         }
         _ => {
-            known::ask(frame, head, store, marks);
+            ask(frame, head, scratch, store, marks);
             tallies
         }
     }
@@ -180,11 +202,12 @@ pub(crate) fn serve(
     marks: &mut [u8],
     file: &[u8],
 ) -> Session {
+    let scratch = handout::scratch_after(frame, session.scratch);
     if frame.opcode == frame::BEGIN {
-        return begin(frame, store, marks);
+        return begin(frame, scratch, store, marks);
     }
     if frame.opcode == frame::LEND {
-        return lend(frame, store, marks, file);
+        return lend(frame, scratch, store, marks, file);
     }
     let tallies = session.tallies;
     let store_end = edit::within(session.store, store);
@@ -192,9 +215,11 @@ pub(crate) fn serve(
     Session {
         store: session.store,
         marks: session.marks,
+        scratch,
         tallies: serve_lent(
             frame,
             head,
+            scratch,
             tallies,
             &mut store[..store_end],
             &mut marks[..marks_end],

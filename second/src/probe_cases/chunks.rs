@@ -1,7 +1,7 @@
 //! Chunks: each field at its bounds, damage in every byte, and the order of the checks.
 use super::script::*;
-use crate::container::Plan;
 use crate::probe::*;
+use crate::writer::Plan;
 
 /// Places of a chunk's fields, counted from its first byte.
 mod in_chunk {

@@ -1,8 +1,8 @@
 //! Extension fields: their order, their ends, and the rule of each tag.
 use super::headers::{at, shape};
 use super::script::*;
-use crate::container::Plan;
 use crate::probe::*;
+use crate::writer::Plan;
 
 /// A header with these bytes behind its priority list.
 fn extended(flags: u16, extension: &[u8]) -> Vec<u8> {

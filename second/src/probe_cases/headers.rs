@@ -1,7 +1,7 @@
 //! Headers: written files, each number and list at its bounds, damage in every byte, and the order of the checks.
 use super::script::*;
-use crate::container::Plan;
 use crate::probe::*;
+use crate::writer::{encoded, Plan};
 
 /// Places of fields, counted from the file's first byte.
 pub mod at {
@@ -34,8 +34,8 @@ pub fn every_rule() -> Plan {
     let tags =
         [(0x0000, 0), (0x0001, 3), (0x0010, 1), (0x0012, 0), (0x0020, 40), (0x0030, 2), (0x00FF, 5), (0x0100, 1)];
     let more = [(0x0101, 9), (0x0102, 1), (0x0103, 2), (0x0104, 7), (0x0105, 0), (0x7FFF, 4), (0x8000, 1), (0xFFFF, 6)];
-    let fields = tags.into_iter().chain(more).map(|(tag, length)| (tag, value(length))).collect();
-    Plan { fields, ..with_list }
+    let fields: Vec<(u16, Vec<u8>)> = tags.into_iter().chain(more).map(|(tag, length)| (tag, value(length))).collect();
+    Plan { fields: encoded(&fields), ..with_list }
 }
 
 pub fn written_files(script: &mut Script) {
@@ -146,7 +146,7 @@ pub fn header_lengths(script: &mut Script) {
         };
         script.header(&format!("{case}H {length}"), &[Four(at::H, length)]);
     }
-    script.load(&Plan { fields: vec![(0x0200, vec![])], ..plan(18, 4, 2) }.file());
+    script.load(&Plan { fields: encoded(&[(0x0200, vec![])]), ..plan(18, 4, 2) }.file());
     for length in 330..=344 {
         script.header(&format!("H {length} where a field ends at 337"), &[Four(at::H, length)]);
     }
@@ -203,7 +203,7 @@ pub fn damaged_headers(script: &mut Script) {
 
 pub fn header_order(script: &mut Script) {
     // N = 5, M = 2; behind one index a field of two bytes
-    let plan = Plan { priorities: vec![0], fields: vec![(0x0030, vec![0, 0])], flags: 0x80, ..plan(18, 4, 2) };
+    let plan = Plan { priorities: vec![0], fields: encoded(&[(0x0030, vec![0, 0])]), flags: 0x80, ..plan(18, 4, 2) };
     let file = plan.file_around(&[]);
     let trailer = file.len() - 64;
     script.say("two checks of a header broken at once, each with each");

@@ -1,8 +1,9 @@
 //! Histories of a session: every order of a small collection, and long ones with chance in them.
+use super::chance::Chance;
 use super::script::*;
 use super::sessions::{show, Stage};
-use crate::container::Plan;
 use crate::probe::*;
+use crate::writer::Plan;
 
 /// All orders of the numbers below a count.
 fn orders(count: usize) -> Vec<Vec<usize>> {
@@ -13,16 +14,6 @@ fn orders(count: usize) -> Vec<Vec<usize>> {
         (0..count).map(move |place| [&order[..place], &[count - 1], &order[place..]].concat()).collect::<Vec<_>>()
     };
     orders(count - 1).into_iter().flat_map(with_last).collect()
-}
-
-/// Numbers that seem to come by chance, the same in each run.
-struct Chance(u64);
-
-impl Chance {
-    fn below(&mut self, limit: usize) -> usize {
-        self.0 = self.0.wrapping_mul(6_364_136_223_846_793_005).wrapping_add(1_442_695_040_888_963_407);
-        (self.0 >> 33) as usize % limit
-    }
 }
 
 /// Where each part lies once all are put behind each other.
@@ -79,7 +70,7 @@ fn marks(chance: &mut Chance, count: usize, lawful: bool) -> Vec<u8> {
     marks
 }
 
-/// Offers of all kinds, with prefix, missing list and note in between.
+/// Offers of all kinds, with prefix, missing list, note, hand-out and a block in between.
 fn history(script: &mut Script, chance: &mut Chance, parts: &[(usize, usize)], offers: usize) {
     for turn in 1..=offers {
         let (at, length) = parts[chance.below(parts.len())];
@@ -102,6 +93,8 @@ fn history(script: &mut Script, chance: &mut Chance, parts: &[(usize, usize)], o
             script.frame(PREFIX, 0, 44, 0);
             script.frame(LIST_MISSING, 0, 8, 0);
             script.frame(WRITE_NOTE, 0, 55, 0);
+            script.frame(HAND_OUT, 0, 44, 0);
+            script.frame(BLOCK, 0, chance.below(9), 6);
         }
     }
     show(script);
@@ -112,6 +105,7 @@ pub fn long_histories(script: &mut Script) {
     let mut chance = Chance(20_261_115);
     script.say("long histories");
     let stage = Stage::set(script, &plan);
+    script.frame(SCRATCH, 0, 18, 1024);
     let (count, others) = (stage.chunks.len(), others(&plan));
     let chunks = [plan.chunks(), plan.chunks(), others[2..4].to_vec(), foreign(&plan)[..2].to_vec()].concat();
     for round in 0..12 {

@@ -1,9 +1,9 @@
 //! What sessions know: prefix, missing list and note of marks that were offered or lent, and notes that are read.
 use super::script::*;
 use super::sessions::Stage;
-use crate::container::Plan;
 use crate::note::note;
 use crate::probe::*;
+use crate::writer::Plan;
 
 /// The note of document 01.
 const WORKED: [u8; 39] = [

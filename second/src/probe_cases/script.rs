@@ -1,6 +1,6 @@
 //! The frames of a case as a script, and the files and changes that cases are made of.
-use crate::container::Plan;
 use crate::probe::*;
+use crate::writer::Plan;
 
 /// "/CHK" as a number.
 pub const END_MARKER: usize = 0x4B48_432F;

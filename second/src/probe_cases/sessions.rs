@@ -1,8 +1,8 @@
 //! Sessions: fresh chunks, copies and conflicts, every refusal, lent memory, tallies, and offers in several orders.
 use super::chunks::breaches;
 use super::script::*;
-use crate::container::Plan;
 use crate::probe::*;
+use crate::writer::Plan;
 
 /// A session of a plan: the places of its chunks, and the memory that it wants.
 pub struct Stage {
@@ -34,8 +34,16 @@ impl Stage {
         script.frame(OFFER, 0, at, length);
     }
 
+    /// Offers a chunk with another byte of payload under its old hash; the file is then as it was.
+    pub fn offer_unsealed(&self, script: &mut Script, index: usize, byte: u8) {
+        let (at, length) = self.chunks[index];
+        script.edit(&[Byte(at + 48, byte)]);
+        script.frame(OFFER, 0, at, length);
+        script.restore();
+    }
+
     /// Offers a chunk with another byte of payload, and seals it; the file is then as it was.
-    fn offer_other(&self, script: &mut Script, index: usize, byte: u8) {
+    pub fn offer_other(&self, script: &mut Script, index: usize, byte: u8) {
         let (at, length) = self.chunks[index];
         script.edit(&[Byte(at + 48, byte)]);
         script.frame(SEAL_CHUNK, 0, at, 0);
@@ -63,10 +71,7 @@ pub fn offers_and_copies(script: &mut Script) {
     }
     stage.begin(script, "D.7 a copy with a wrong hash before and behind the right one");
     for byte in [0xEE, 0xEF] {
-        let (at, length) = stage.chunks[0];
-        script.edit(&[Byte(at + 48, byte)]);
-        script.frame(OFFER, 0, at, length);
-        script.restore();
+        stage.offer_unsealed(script, 0, byte);
         stage.offer(script, 0);
     }
     show(script);

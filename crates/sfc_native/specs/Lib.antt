@@ -1,0 +1,2 @@
+-- The numbers under which the answers go out.
+pub mod Answers

@@ -1,0 +1,26 @@
+-- `sfc_probe::edit::all_are` is safe and ends: what is left of the bytes falls. Assumes nothing.
+use Prim.Native.Nat.{_-_}
+use lib.ListN.{length}
+use borrow.Author.Needs.{needs}
+use Rattle.sfc_probe.proofs.edit.all_are.Statement.{statement}
+use Rattle.sfc_probe.proofs.edit.all_are.Tie as tie
+
+abbrev Inv-loop : tie.InvT-loop
+Inv-loop bytes value i₀ i = Unit {0}
+
+abbrev μ-loop : tie.MeasureT-loop
+μ-loop bytes value i₀ i = length bytes - i
+
+pub all-are-spec : {M : Type 1} → statement M
+all-are-spec =
+    tie.close
+    (tie.spec
+    Inv-loop
+    μ-loop
+    (λ c. search needs)
+    (λ c. search needs)
+    (λ c. search needs)
+    (λ c. search needs)
+    (λ c. search needs)
+    (λ c. search needs)
+    (λ c. search needs))

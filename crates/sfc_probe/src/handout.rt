@@ -1,0 +1,246 @@
+// Frames that ask for the content or for a block.
+use crate::edit;
+use crate::frame;
+use crate::frame::Frame;
+use crate::print;
+use crate::sets;
+use sfc::block::block;
+use sfc::handout::HandedOut;
+use sfc::handout::hand_out;
+use sfc::header::Head;
+use sfc::places::BlockNumber;
+use sfc::prefix::Given;
+use sfc::reason::number_of;
+ghost use Rattle.io.specs.Counts.{Counts};
+
+// How many bytes and numbers are lent as scratch.
+pub(crate) struct Scratch {
+    pub(crate) bytes: usize,
+    pub(crate) numbers: usize,
+}
+
+// The scratch after a frame.
+pub(crate) fn scratch_after(frame: Frame, before: Scratch) -> Scratch {
+    if frame.opcode == frame::SCRATCH {
+        return Scratch {
+            bytes: frame.a as usize,
+            numbers: frame.b as usize,
+        };
+    }
+    before
+}
+
+// What a call answered: the number of the refusal or 0, and the block and the place that it gave.
+pub(crate) struct Told {
+    pub(crate) answer: u8,
+    pub(crate) block: u64,
+    pub(crate) place: u64,
+}
+
+fn told_refused(answer: u8) -> Told {
+    Told {
+        answer,
+        block: 0,
+        place: 0,
+    }
+}
+
+fn told_handed_out(handed: HandedOut) -> Told {
+    match handed {
+        HandedOut::Complete(end) => Told {
+            answer: 0,
+            block: 0,
+            place: end.0 as u64,
+        },
+        HandedOut::Refused(reason) => told_refused(number_of(reason)),
+    }
+}
+
+fn told_given(given: Given) -> Told {
+    match given {
+        Given::Unverified(number, place) => Told {
+            answer: 0,
+            block: number.0 as u64,
+            place: place.0 as u64,
+        },
+        Given::Refused(reason) => told_refused(number_of(reason)),
+    }
+}
+
+fn set_numbers(numbers: &mut [u16], value: u16) {
+    let mut i = 0;
+    while i < numbers.len() {
+        numbers[i] = value;
+        i += 1;
+    }
+}
+
+fn are_all(numbers: &[u16], value: u16) -> bool {
+    let mut i = 0;
+    while i < numbers.len() {
+        if numbers[i] != value {
+            return false;
+        }
+        i += 1;
+    }
+    true
+}
+
+fn is_for_content(opcode: u8) -> bool {
+    (opcode == frame::HAND_OUT) | (opcode == frame::HAND_OUT_SETS)
+}
+
+// The call that a frame asks for, with a pattern in all that it may write to.
+pub(crate) fn call(
+    frame: Frame,
+    head: Head,
+    store: &[u8],
+    marks: &[u8],
+    scratch: &mut [u8],
+    numbers: &mut [u16],
+    out: &mut [u8],
+) -> Told {
+    edit::set_all(scratch, 0xA5);
+    set_numbers(numbers, 0xA5A5);
+    edit::set_all(out, 0xA5);
+    if is_for_content(frame.opcode) {
+        return told_handed_out(hand_out(head, store, marks, scratch, numbers, out));
+    }
+    told_given(block(
+        head,
+        BlockNumber(frame.a),
+        store,
+        marks,
+        scratch,
+        numbers,
+        out,
+    ))
+}
+
+// What became of the scratch: 0 where all are zeros, 1 where all have the pattern.
+pub(crate) fn bytes_state(bytes: &[u8]) -> u8 {
+    if edit::all_are(bytes, 0) {
+        return 0;
+    }
+    if edit::all_are(bytes, 0xA5) {
+        return 1;
+    }
+    2
+}
+
+pub(crate) fn numbers_state(numbers: &[u16]) -> u8 {
+    if are_all(numbers, 0) {
+        return 0;
+    }
+    if are_all(numbers, 0xA5A5) {
+        return 1;
+    }
+    2
+}
+
+fn print_state(state: u8) {
+    match state {
+        0 => print::text(b"zeros"),
+        1 => print::text(b"kept"),
+        _ => print::text(b"mixed"),
+    }
+}
+
+fn print_told(opcode: u8, told: Told) {
+    if told.answer != 0 {
+        print::decimal(told.answer as u64);
+    } else if is_for_content(opcode) {
+        print::field(b"complete ", told.place);
+    } else {
+        print::field(b"unverified ", told.block);
+        print::field(b" ", told.place);
+    }
+}
+
+// One call, its answer, the output and the scratch.
+fn one(
+    frame: Frame,
+    head: Head,
+    store: &[u8],
+    marks: &[u8],
+    scratch: &mut [u8],
+    numbers: &mut [u16],
+    out: &mut [u8],
+) {
+    let told = call(frame, head, store, marks, scratch, numbers, out);
+    print_told(frame.opcode, told);
+    print::output(out);
+    print::text(b" scratch ");
+    print_state(bytes_state(scratch));
+    print::text(b" numbers ");
+    print_state(numbers_state(numbers));
+    print::line_end();
+}
+
+fn output_length(frame: Frame, s: u32) -> usize {
+    let opcode = frame.opcode;
+    match opcode {
+        frame::HAND_OUT => frame.a as usize,
+        frame::BLOCK => frame.b as usize,
+        frame::HAND_OUT_SETS => edit::least(frame.a as usize, 4096),
+        _ => edit::least(s as usize + 1, 4096),
+    }
+}
+
+// One number more than a hand-out takes.
+fn numbers_room() -> [u16; 1025] {
+    [0u16; 1025]
+}
+
+// How many of the first n numbers a slice has.
+fn within(n: usize, numbers: &[u16]) -> usize
+    ensures { λ r. ⌜ Counts r (now (numbers .entry)) ⌝ }
+{
+    edit::least(n, numbers.len())
+}
+
+// With scratch and output of the lengths that are asked for.
+fn ask_with(
+    frame: Frame,
+    head: Head,
+    lent: Scratch,
+    store: &[u8],
+    marks: &[u8],
+    scratch: &mut [u8],
+    out: &mut [u8],
+) {
+    let mut room = numbers_room();
+    let end = within(lent.numbers, &room);
+    let numbers = &mut room[..end];
+    if (frame.opcode == frame::HAND_OUT) | (frame.opcode == frame::BLOCK) {
+        one(frame, head, store, marks, scratch, numbers, out);
+    } else {
+        sets::sweep(frame, head, store, marks, scratch, numbers, out);
+    }
+}
+
+fn lend(frame: Frame, head: Head, lent: Scratch, store: &[u8], marks: &[u8]) {
+    let mut scratch = io::large_buffer();
+    let mut out = io::large_buffer();
+    let scratch_end = edit::within(lent.bytes, &scratch);
+    let out_end = edit::within(output_length(frame, head.s), &out);
+    ask_with(
+        frame,
+        head,
+        lent,
+        store,
+        marks,
+        &mut scratch[..scratch_end],
+        &mut out[..out_end],
+    );
+}
+
+pub(crate) fn ask(frame: Frame, head: Head, lent: Scratch, store: &[u8], marks: &[u8]) {
+    let opcode = frame.opcode;
+    match opcode {
+        frame::HAND_OUT | frame::BLOCK | frame::HAND_OUT_SETS | frame::BLOCK_SETS => {
+            lend(frame, head, lent, store, marks)
+        }
+        _ => {}
+    }
+}

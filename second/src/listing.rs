@@ -1,0 +1,74 @@
+//! The listing of a file, as the program sfc_list prints it.
+use crate::blake3::hex;
+use crate::container::{must, read_header, Head};
+use crate::hand_out::{Lent, Scratch};
+use crate::note::{missing, ranges, HELD};
+use crate::session::Session;
+use crate::writer::Plan;
+use std::io::{Read, Write};
+
+/// The longest file, and the largest store.
+const FILE: usize = 65_536;
+const STORE: u64 = 32_768;
+
+/// The chunks of a file, offered one behind the other; the first that is cut short, none, or too long ends them.
+fn offer_all(session: &mut Session, head: &Head, chunks: &[u8]) {
+    let mut rest = chunks;
+    while !matches!(session.offer(head, rest), Err(30..=32)) {
+        let payload = u32::from_le_bytes(rest[28..32].try_into().unwrap());
+        rest = &rest[84 + payload as usize..];
+    }
+}
+
+fn lines(file: &[u8]) -> Result<Vec<String>, u8> {
+    must(file.len() <= FILE, 15)?;
+    let head = read_header(file)?;
+    let blocks = (head.n + head.m) as usize;
+    must(blocks as u64 * head.s <= STORE, 15)?;
+    let mut session = Session::new(&head, vec![0; blocks * head.s as usize], vec![0; blocks]);
+    offer_all(&mut session, &head, &file[12 + head.header_length as usize..file.len() - 64]);
+    let (store, marks) = (session.store(), session.marks());
+    let count = |wanted: u8| marks.iter().filter(|&&mark| mark == wanted).count();
+    let mut lines = vec![
+        format!("sfc uuid={}", hex(&head.uuid)),
+        format!("blocks={} recovery={} size={} block={}", head.n, head.m, head.size, head.s),
+        format!("held={} barred={}", count(HELD), count(2)),
+    ];
+    lines.extend(ranges(&missing(&head, &marks)?).iter().map(|(first, last)| format!("missing {first}-{last}")));
+    let mut scratch = Scratch { bytes: vec![0; (head.m * head.s) as usize], numbers: vec![0; 1024] };
+    let given = Lent { head: &head, store: &store, marks: &marks }.hand_out(&mut scratch, head.size as usize);
+    let last = match given {
+        Ok(_) => "complete",
+        Err(51) => "hash differs",
+        Err(_) => "incomplete",
+    };
+    lines.push(last.to_string());
+    Ok(lines)
+}
+
+pub fn listing(file: &[u8]) -> String {
+    let lines = lines(file).unwrap_or_else(|number| vec![format!("refused {number}")]);
+    lines.iter().map(|line| line.clone() + "\n").collect()
+}
+
+/// The listing of standard input.
+pub fn print() {
+    let mut file = Vec::new();
+    std::io::stdin().read_to_end(&mut file).expect("standard input can be read");
+    print!("{}", listing(&file));
+}
+
+/// Writes the file whose listing document 01 shows: of four data blocks and one for recovery 0, 2 and 4 have come.
+pub fn write_case() {
+    let plan = Plan {
+        content: (1..=14).collect(),
+        s: 4,
+        m: 1,
+        uuid: std::array::from_fn(|i| i as u8),
+        name: b"pass.bin".to_vec(),
+        ..Plan::default()
+    };
+    let chunks = plan.chunks();
+    let file = plan.file_around(&[0, 2, 4].map(|index: usize| chunks[index].clone()).concat());
+    std::io::stdout().write_all(&file).expect("standard output can be written");
+}
