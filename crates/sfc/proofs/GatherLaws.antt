@@ -249,10 +249,10 @@ feeding-end size n m s marks store state row j h small f =
 
 -- ---- copying: what is still to be copied, put into the output, gives the promised one
 
-put-none : (xs : List ℕ) (at : ℕ) → put xs at [] ≡ xs
+pub put-none : (xs : List ℕ) (at : ℕ) → put xs at [] ≡ xs
 put-none xs at = take-append-drop at xs
 
-put-next : (xs : List ℕ) (at : ℕ) (ys zs : List ℕ) → at + length ys ≤ length xs → put (put xs at ys) (at + length ys) zs ≡ put xs at (ys ++ zs)
+pub put-next : (xs : List ℕ) (at : ℕ) (ys zs : List ℕ) → at + length ys ≤ length xs → put (put xs at ys) (at + length ys) zs ≡ put xs at (ys ++ zs)
 put-next xs at ys zs h =
     let l : length (take at xs) ≡ at = length-take-le at xs (omega arith) in
     let a : take (at + length ys) (put xs at ys) ≡ take at xs ++ ys
