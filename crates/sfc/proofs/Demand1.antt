@@ -66,7 +66,7 @@ offerSeen (Fresh i p) = Good
 offerSeen (Repeat i p) = Good
 offerSeen (NotTaken r) = Refused r
 
-abbrev handOutSeen : HandedOut → Checked
+abbrev pub handOutSeen : HandedOut → Checked
 handOutSeen (Complete p) = Good
 handOutSeen (NotHandedOut r) = Refused r
 

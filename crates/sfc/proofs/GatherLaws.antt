@@ -209,9 +209,13 @@ module _ (size n m s : ℕ) (marks store scratch : List ℕ) (w : Cut size n s �
         cut-block scratch row s count count-most
         ∙ ap (take count) (w .1 .found row (at-row .1) ∙ ap (λ (i : ℕ). decode n m s marks store i) (at-row .0))
 
--- a part is no longer than was asked for, and so few bytes may be fed
+-- a part is no longer than was asked for
+pub length-cut : (xs : List ℕ) (at k : ℕ) → length (part xs at k) ≤ k
+length-cut xs at k = length-take-most k (drop at xs)
+
+-- and so few bytes may be fed
 pub few-enough : (xs : List ℕ) (at k fed most : ℕ) → fed + k ≤ most → fed + length (part xs at k) ≤ most
-few-enough xs at k fed most h = omega (arith, length-take-most k (drop at xs))
+few-enough xs at k fed most h = omega (arith, length-cut xs at k)
 
 -- ---- hashing: what is fed and what is still to be fed make up the content
 
@@ -253,7 +257,7 @@ feeding-end size n m s marks store state row j h small f =
 
 -- ---- copying: what is still to be copied, put into the output, gives the promised one
 
-put-none : (xs : List ℕ) (at : ℕ) → put xs at [] ≡ xs
+pub put-none : (xs : List ℕ) (at : ℕ) → put xs at [] ≡ xs
 put-none xs at = take-append-drop at xs
 
 pub record Copying (size n m s : ℕ) (marks store out₀ out : List ℕ) (row j : ℕ) : Type 0 where

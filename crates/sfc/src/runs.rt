@@ -1,4 +1,4 @@
-// Runs of bytes: whether two are the same, and zeros over one.
+// Runs of bytes: whether two are the same, and zeros over one; zeros over numbers.
 ghost use mathlib.Core.Path.{_≡_};
 ghost use lib.ListN.{length};
 ghost use Rattle.sfc.specs.Bytes.{zeros, same};
@@ -33,6 +33,16 @@ pub(crate) fn clear_numbers(numbers: &mut [u16])
     let mut i = 0;
     while i < numbers.len() {
         numbers[i] = 0;
+        i += 1;
+    }
+}
+
+pub(crate) fn clear_indices(indices: &mut [u32])
+    ensures { λ _. ⌜ now (indices .exit) ≡ zeros (length (now (indices .entry))) ⌝ }
+{
+    let mut i = 0;
+    while i < indices.len() {
+        indices[i] = 0;
         i += 1;
     }
 }
