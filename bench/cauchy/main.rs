@@ -5,30 +5,12 @@ mod code;
 mod cpu;
 #[path = "../../second/src/field.rs"]
 mod field;
+#[path = "../measure.rs"]
+mod measure;
 mod par2;
 mod proved;
 
-/// The bytes of a linear congruential generator.
-fn bytes(count: usize) -> Vec<u8> {
-    let mut state: u32 = 1;
-    (0..count)
-        .map(|_| {
-            state = state.wrapping_mul(1103515245).wrapping_add(12345);
-            (state >> 16) as u8
-        })
-        .collect()
-}
-
-/// The least processor time of some runs of a call, in seconds.
-fn seconds<T>(runs: usize, mut call: impl FnMut() -> T) -> f64 {
-    (0..runs)
-        .map(|_| {
-            let start = cpu::own();
-            std::hint::black_box(call());
-            cpu::own() - start
-        })
-        .fold(f64::MAX, f64::min)
-}
+use measure::{bytes, seconds};
 
 /// A store of n data blocks and their m recovery blocks, with the first `gone` data blocks not held and garbage in their place.
 fn store(n: usize, m: usize, s: usize, gone: usize) -> (Vec<u8>, Vec<u8>, Vec<u8>) {

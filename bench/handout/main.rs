@@ -14,41 +14,23 @@ mod container;
 mod cpu;
 #[path = "../../second/src/field.rs"]
 mod field;
+#[path = "../measure.rs"]
+mod measure;
 mod proved;
 #[path = "../../second/src/writer.rs"]
 #[allow(dead_code)]
 mod writer;
 
+use measure::{bytes, seconds};
 use writer::Plan;
 
 const RUNS: usize = 9;
 
-/// The bytes of a linear congruential generator.
-fn bytes(count: usize) -> Vec<u8> {
-    let mut state: u32 = 1;
-    (0..count)
-        .map(|_| {
-            state = state.wrapping_mul(1103515245).wrapping_add(12345);
-            (state >> 16) as u8
-        })
-        .collect()
-}
-
-/// The least processor time of some runs of a call, in seconds.
-fn seconds(mut call: impl FnMut()) -> f64 {
-    let time = |_| {
-        let start = cpu::own();
-        call();
-        cpu::own() - start
-    };
-    (0..RUNS).map(time).fold(f64::MAX, f64::min)
-}
-
 fn copy_time(content: &[u8]) -> f64 {
     let mut out = vec![0; content.len()];
-    seconds(|| {
+    seconds(RUNS, || {
         out.copy_from_slice(content);
-        std::hint::black_box(proved::hash(&out));
+        proved::hash(&out)
     })
 }
 
@@ -64,7 +46,8 @@ fn hand_out_time(plan: &Plan, blocks: &[Vec<u8>], gone: usize) -> f64 {
     let header = plan.file_around(&[]);
     let mut scratch = vec![0xEE; plan.m as usize * s];
     let mut out = vec![0xEE; plan.content.len()];
-    let time = seconds(|| assert!(proved::hand_out(&header, &store, &marks, &mut scratch, &mut out) == 0, "refused"));
+    let time =
+        seconds(RUNS, || assert!(proved::hand_out(&header, &store, &marks, &mut scratch, &mut out) == 0, "refused"));
     assert!(out == plan.content, "the content is wrong");
     time
 }

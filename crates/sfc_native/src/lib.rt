@@ -1,13 +1,18 @@
-// The hand-out under a C name, for programs in other languages and for measuring: an answer goes out as its number.
+// The hand-out and the writer under C names, for programs in other languages and for measuring: an answer goes out as a number.
 use sfc::handout::HandedOut;
 use sfc::handout::hand_out;
 use sfc::header::read_header;
 use sfc::reason::number_of;
+use sfc::writer::FileFacts;
+use sfc::writer::write;
+use sfc::written::Written;
 ghost use Prim.Native.Nat.{ℕ};
 ghost use mathlib.Core.Path.{_≡_};
 ghost use Rattle.sfc.specs.HandOut.{Lent, Rebuilding, handOut};
 ghost use Rattle.sfc.specs.Header.{readHeader};
-ghost use Rattle.sfc_native.specs.Answers.{numberFor, numbered};
+ghost use Rattle.sfc.specs.Numbers.{Answered};
+ghost use Rattle.sfc.specs.Writer.{inputOf, writeFile};
+ghost use Rattle.sfc_native.specs.Answers.{numberFor, numbered, lengthFor, measured};
 
 fn number(handed: HandedOut) -> u8
     ensures { λ r. ⌜ r ≡ numberFor handed ⌝ }
@@ -33,4 +38,41 @@ pub extern "C" fn sfc_hand_out(
     let read = read_header(file);
     let head = read.head;
     number(hand_out(head, store, marks, scratch, numbers, out))
+}
+
+fn length_or_number(written: Written) -> u64
+    ensures { λ r. ⌜ r ≡ lengthFor written ⌝ }
+{
+    match written {
+        Written::Bytes(length) => length as u64,
+        Written::Refused(reason) => number_of(reason) as u64,
+    }
+}
+
+// The file goes to the output's front. An answer of 60 or 61 is a refusal, and any other is the file's length.
+#[no_mangle]
+pub extern "C" fn sfc_write(
+    s: u32,
+    m: u32,
+    uuid: &[u8; 16],
+    time: u64,
+    format: u16,
+    flags: u16,
+    content: &[u8],
+    name: &[u8],
+    priority: &[u32],
+    fields: &[u8],
+    out: &mut [u8],
+) -> u64
+    ensures { λ r. ⌜ _≡_ {A = Answered ℕ} (record { answer = r; output = now (out .exit) }) (measured (writeFile (inputOf (record { s = s; m = m; uuid = now (uuid .entry); time = time; format = format; flags = flags }) (now (content .entry)) (now (name .entry)) (now (priority .entry)) (now (fields .entry))) (now (out .entry)))) ⌝ }
+{
+    let facts = FileFacts {
+        s,
+        m,
+        uuid: *uuid,
+        time,
+        format,
+        flags,
+    };
+    length_or_number(write(facts, content, name, priority, fields, out))
 }

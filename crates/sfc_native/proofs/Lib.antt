@@ -1,0 +1,2 @@
+-- That a length is none of a refusal's numbers.
+pub mod Apart
