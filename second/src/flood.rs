@@ -1,8 +1,11 @@
-//! Frames of damaged, reordered and forged files without end, for comparison outside the gate.
+//! Frames of damaged, reordered and forged files without end, for comparison outside the gate; the gate runs a slice of them.
 use crate::probe::*;
-use crate::probe_cases::{Chance, Script};
+use crate::probe_cases::{Byte, Chance, Cut, Four, Script};
 use crate::writer::{encoded, Plan};
 use std::io::Write;
+
+/// How many spoilt files are made from one that was written down.
+const OF_ONE: usize = 8;
 
 fn bytes(chance: &mut Chance, count: usize) -> Vec<u8> {
     (0..count).map(|_| chance.below(256) as u8).collect()
@@ -38,28 +41,26 @@ fn some_plan(chance: &mut Chance) -> Plan {
     plan
 }
 
-fn flip(chance: &mut Chance, bytes: &mut [u8]) {
-    if !bytes.is_empty() {
-        let place = chance.below(bytes.len());
-        bytes[place] ^= 1 << chance.below(8);
+/// A file as it was written down, the places of its chunks, and what it was made from.
+struct Base {
+    plan: Plan,
+    file: Vec<u8>,
+    region: usize,
+    chunks: Vec<(usize, usize)>,
+}
+
+fn shuffle<T>(chance: &mut Chance, parts: &mut [T]) {
+    for place in (1..parts.len()).rev() {
+        parts.swap(place, chance.below(place + 1));
     }
 }
 
-/// A chunk as it may come: mostly whole, else damaged, cut short, or damaged and sealed again.
+/// A chunk as it was written down: mostly whole, else cut short or with bytes behind it.
 fn some_chunk(chance: &mut Chance, chunk: &[u8]) -> Vec<u8> {
     let mut chunk = chunk.to_vec();
-    match chance.below(16) {
-        0 => flip(chance, &mut chunk),
-        1 => chunk.truncate(chance.below(chunk.len())),
-        2 => {
-            flip(chance, &mut chunk[48..]);
-            seal_chunk(&mut chunk);
-        }
-        3 => {
-            flip(chance, &mut chunk[..48]);
-            seal_chunk(&mut chunk);
-        }
-        4 => {
+    match chance.below(32) {
+        0 => chunk.truncate(chance.below(chunk.len())),
+        1 => {
             let length = chance.below(9);
             chunk.extend(bytes(chance, length));
         }
@@ -68,30 +69,8 @@ fn some_chunk(chance: &mut Chance, chunk: &[u8]) -> Vec<u8> {
     chunk
 }
 
-/// A header as it may come: mostly right, else with a byte changed, and sealed again or not.
-fn spoil_header(chance: &mut Chance, file: &mut Vec<u8>, region: usize) {
-    match chance.below(24) {
-        0 => flip(chance, &mut file[..8 + region]),
-        1 => {
-            flip(chance, &mut file[8..8 + region]);
-            seal_header(file);
-        }
-        2 => {
-            let trailer = file.len() - 64;
-            flip(chance, &mut file[trailer..]);
-        }
-        3 => {
-            // numbers and flags are the most telling
-            flip(chance, &mut file[325..343]);
-            seal_header(file);
-        }
-        4 => file.truncate(chance.below(file.len())),
-        _ => {}
-    }
-}
-
-/// Loads a file whose chunks have been damaged, repeated, left out and shuffled, reads it, offers them, and asks for all.
-fn one_file(script: &mut Script, chance: &mut Chance) {
+/// A file whose chunks have been repeated, left out and shuffled.
+fn some_base(chance: &mut Chance) -> Base {
     let plan = some_plan(chance);
     let mut chunks: Vec<Vec<u8>> = Vec::new();
     for chunk in plan.chunks() {
@@ -99,37 +78,115 @@ fn one_file(script: &mut Script, chance: &mut Chance) {
             chunks.push(some_chunk(chance, &chunk));
         }
     }
-    for place in (1..chunks.len()).rev() {
-        chunks.swap(place, chance.below(place + 1));
-    }
+    shuffle(chance, &mut chunks);
     let region = plan.region().len();
-    let mut file = plan.file_around(&chunks.concat());
-    spoil_header(chance, &mut file, region);
-    script.load(&file);
-    script.read();
-    let count = plan.data_count() + plan.m as usize;
-    script.frame(BEGIN, 0, count * plan.s as usize, count);
-    script.frame(SCRATCH, 0, (plan.m * plan.s) as usize, 1024);
     let mut at = 8 + region;
-    for chunk in &chunks {
-        script.frame(OFFER, 0, at, chunk.len());
+    let mut place = |chunk: &Vec<u8>| {
         at += chunk.len();
+        (at - chunk.len(), chunk.len())
+    };
+    let places = chunks.iter().map(&mut place).collect();
+    Base { file: plan.file_around(&chunks.concat()), plan, region, chunks: places }
+}
+
+impl Base {
+    /// Changes a bit of some bytes.
+    fn flip(&self, script: &mut Script, chance: &mut Chance, part: std::ops::Range<usize>) {
+        if !part.is_empty() {
+            let place = part.start + chance.below(part.len());
+            script.edit(&[Byte(place, self.file[place] ^ 1 << chance.below(8))]);
+        }
     }
-    script.frame(SHOW, 0, 0, 0);
-    script.frame(PREFIX, 0, plan.content.len() + chance.below(3), 0);
-    script.frame(LIST_MISSING, 0, 8, 0);
-    script.frame(WRITE_NOTE, 0, 80, 0);
-    script.frame(HAND_OUT, 0, plan.content.len() + chance.below(3), 0);
-    script.frame(BLOCK, 0, chance.below(plan.data_count() + 1), plan.s as usize);
+
+    /// Damages a chunk, or forges one: its payload, its header or its index is another, and it is sealed again.
+    fn spoil_chunk(&self, script: &mut Script, chance: &mut Chance) {
+        if self.chunks.is_empty() {
+            return;
+        }
+        let (at, length) = pick(chance, &self.chunks);
+        let middle = at + length.min(48);
+        let kind = chance.below(4);
+        match kind {
+            0 => self.flip(script, chance, at..at + length),
+            1 => self.flip(script, chance, middle..at + length),
+            2 => self.flip(script, chance, at..middle),
+            _ => script.edit(&[Four(at + 20, chance.below(self.plan.data_count()))]),
+        }
+        if kind > 0 {
+            script.frame(SEAL_CHUNK, 0, at, 0);
+        }
+    }
+
+    /// Damages the header, which may be sealed again, or the trailer, or cuts the file short.
+    fn spoil_header(&self, script: &mut Script, chance: &mut Chance) {
+        let length = self.file.len();
+        match chance.below(5) {
+            0 => self.flip(script, chance, 0..8 + self.region),
+            1 => {
+                self.flip(script, chance, 8..8 + self.region);
+                script.seal();
+            }
+            2 => self.flip(script, chance, length - 64..length),
+            3 => {
+                // numbers and flags are the most telling
+                self.flip(script, chance, 325..343);
+                script.seal();
+            }
+            _ => script.edit(&[Cut(chance.below(length))]),
+        }
+    }
+
+    /// Asks for all that a session gives back.
+    fn ask(&self, script: &mut Script, chance: &mut Chance) {
+        let (size, n) = (self.plan.content.len(), self.plan.data_count());
+        script.frame(SHOW, 0, 0, 0);
+        script.frame(PREFIX, 0, size + chance.below(3), 0);
+        script.frame(LIST_MISSING, 0, 8, 0);
+        script.frame(WRITE_NOTE, 0, 80, 0);
+        script.frame(HAND_OUT, 0, size + chance.below(3), 0);
+        script.frame(BLOCK, 0, chance.below(n + 1), self.plan.s as usize);
+    }
+
+    /// Spoils the file, lists it, reads it, and offers its chunks in another order; then it is as it was.
+    fn one_file(&self, script: &mut Script, chance: &mut Chance) {
+        for _ in 0..pick(chance, &[0, 1, 1, 2, 2, 3]) {
+            self.spoil_chunk(script, chance);
+        }
+        if chance.below(5) == 0 {
+            self.spoil_header(script, chance);
+        }
+        script.frame(LISTING, 0, 32_768, 0);
+        script.read();
+        let (s, m) = (self.plan.s as usize, self.plan.m as usize);
+        let count = self.plan.data_count() + m;
+        script.frame(BEGIN, 0, count * s, count);
+        script.frame(SCRATCH, 0, m * s, 1024);
+        let mut order = self.chunks.clone();
+        shuffle(chance, &mut order);
+        for (at, length) in order {
+            script.frame(OFFER, 0, at, length);
+        }
+        self.ask(script, chance);
+        script.restore();
+    }
+}
+
+/// The frames of so many spoilt files.
+pub fn spoilt_files(script: &mut Script, seed: u64, count: usize) {
+    let mut chance = Chance(seed);
+    for start in (0..count).step_by(OF_ONE) {
+        let base = some_base(&mut chance);
+        script.load(&base.file);
+        for number in start..count.min(start + OF_ONE) {
+            script.say(&format!("seed {seed} file {number}"));
+            base.one_file(script, &mut chance);
+        }
+    }
 }
 
 /// Writes the frames of so many files to standard output.
 pub fn write(seed: u64, count: usize) {
-    let mut chance = Chance(seed);
-    for number in 0..count {
-        let mut script = Script::default();
-        script.say(&format!("seed {seed} file {number}"));
-        one_file(&mut script, &mut chance);
-        std::io::stdout().write_all(&script.0).expect("standard output can be written");
-    }
+    let mut script = Script::default();
+    spoilt_files(&mut script, seed, count);
+    std::io::stdout().write_all(&script.0).expect("standard output can be written");
 }

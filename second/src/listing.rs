@@ -58,8 +58,8 @@ pub fn print() {
     print!("{}", listing(&file));
 }
 
-/// Writes the file whose listing document 01 shows: of four data blocks and one for recovery 0, 2 and 4 have come.
-pub fn write_case() {
+/// The file whose listing document 01 shows: of four data blocks and one for recovery 0, 2 and 4 have come.
+pub fn example() -> Vec<u8> {
     let plan = Plan {
         content: (1..=14).collect(),
         s: 4,
@@ -69,6 +69,10 @@ pub fn write_case() {
         ..Plan::default()
     };
     let chunks = plan.chunks();
-    let file = plan.file_around(&[0, 2, 4].map(|index: usize| chunks[index].clone()).concat());
-    std::io::stdout().write_all(&file).expect("standard output can be written");
+    plan.file_around(&[0, 2, 4].map(|index: usize| chunks[index].clone()).concat())
+}
+
+/// Writes that file.
+pub fn write_case() {
+    std::io::stdout().write_all(&example()).expect("standard output can be written");
 }

@@ -1,5 +1,6 @@
 //! What the program sfc_probe prints for the same frames, which crates/sfc_probe/src/frame.rt describes.
 mod hand_outs;
+mod listings;
 mod writes;
 
 use crate::blake3::{hash, hex};
@@ -15,6 +16,7 @@ pub const KEEP: u8 = 11;
 pub const RESTORE: u8 = 12;
 pub const CUT: u8 = 13;
 pub const GROW: u8 = 14;
+pub const REPEAT: u8 = 15;
 pub const SET_BYTE: u8 = 20;
 pub const SET_16: u8 = 21;
 pub const SET_32: u8 = 22;
@@ -47,6 +49,7 @@ pub const BLOCK: u8 = 71;
 pub const WRITE: u8 = 72;
 pub const HAND_OUT_SETS: u8 = 73;
 pub const BLOCK_SETS: u8 = 74;
+pub const LISTING: u8 = 75;
 
 /// The most bytes that a file has here, and a printed line.
 const ROOM: usize = 65_536;
@@ -204,6 +207,10 @@ impl Probe {
             RESTORE => self.file = self.kept.clone(),
             CUT => self.file.truncate(a),
             GROW => self.file.resize((length + a).min(ROOM), small),
+            REPEAT => {
+                self.file.extend_from_within(clipped(length, a, b));
+                self.file.truncate(ROOM);
+            }
             SET_BYTE => put(&mut self.file, a, &[small]),
             SET_16 => put(&mut self.file, a, &b.to_le_bytes()[..2]),
             SET_32 => put(&mut self.file, a, &b.to_le_bytes()[..4]),
@@ -318,7 +325,7 @@ impl Probe {
         }
     }
 
-    /// Frames that ask for what a session gives back.
+    /// Frames that ask for what a session gives back, and for a listing.
     fn give_back(&self, opcode: u8, small: u8, a: usize, b: usize) {
         match opcode {
             HAND_OUT => self.ask_for(Call::HandOut, a),
@@ -326,6 +333,7 @@ impl Probe {
             HAND_OUT_SETS => self.ask_sets(Call::HandOut, small, b, a),
             // a byte more than the block, to see that it is left
             BLOCK_SETS => self.ask_sets(Call::Block(a), small, b, self.head.s as usize + 1),
+            LISTING => self.list(small, a, b),
             _ => {}
         }
     }

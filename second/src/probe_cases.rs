@@ -6,15 +6,16 @@ mod extensions;
 mod handouts;
 mod headers;
 mod histories;
+mod listings;
 mod notes;
 mod script;
 mod sessions;
 mod writes;
 
+use crate::flood;
 use crate::probe::*;
 pub use chance::Chance;
-pub use script::Script;
-use script::*;
+pub use script::*;
 use std::io::Write;
 
 /// Makes a file of 65,536 bytes with a header of H = 65,460 and no chunk; no field may be longer than 16,384.
@@ -47,7 +48,7 @@ fn harmless(script: &mut Script) {
         script.frame(opcode, 1, most, most);
     }
     script.frame(PREFIX, 0, 3, 0);
-    for opcode in [SCRATCH, HAND_OUT, BLOCK, HAND_OUT_SETS, BLOCK_SETS] {
+    for opcode in [SCRATCH, HAND_OUT, BLOCK, HAND_OUT_SETS, BLOCK_SETS, LISTING, REPEAT] {
         script.frame(opcode, 255, most, most);
     }
     script.read();
@@ -63,6 +64,11 @@ fn harmless(script: &mut Script) {
     script.frame(GROW, 1, most, 0);
     script.read();
     script.frame(HEADER_LENGTHS, 0, 65_530, 65_536);
+}
+
+/// A slice of the flood that bench/flood.sh lets loose.
+fn flood_slice(script: &mut Script) {
+    flood::spoilt_files(script, 0, 256);
 }
 
 /// Writes the frames to standard output.
@@ -115,6 +121,18 @@ pub fn write() {
         writes::names,
         writes::lists,
         writes::fields,
+        listings::whole_files,
+        listings::withheld_sets,
+        listings::damaged_chunks,
+        listings::lengths,
+        listings::copies,
+        listings::refused_headers,
+        listings::numbers,
+        listings::full_store,
+        listings::most_ranges,
+        listings::longest_files,
+        listings::lent_memory,
+        flood_slice,
         harmless,
     ];
     let mut script = Script::default();

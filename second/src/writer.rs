@@ -73,7 +73,7 @@ impl Plan {
         [(body.len() as u32).to_le_bytes().to_vec(), body].concat()
     }
 
-    fn chunk(&self, index: usize, kind: u32, payload: &[u8]) -> Vec<u8> {
+    pub fn chunk(&self, index: usize, kind: u32, payload: &[u8]) -> Vec<u8> {
         let mut chunk = b"CHK\0".to_vec();
         chunk.extend(self.uuid);
         for number in [index as u32, kind, payload.len() as u32] {

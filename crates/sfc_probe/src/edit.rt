@@ -86,6 +86,23 @@ fn grow(count: usize, value: u8, sizes: Sizes, file: &mut [u8]) -> Sizes {
     }
 }
 
+// The bytes of a part behind the file's end, as far as the buffer goes.
+fn repeat(frame: Frame, sizes: Sizes, file: &mut [u8]) -> Sizes {
+    let mut part = io::large_buffer();
+    let length = within(sizes.file, file);
+    let start = within(frame.a as usize, &file[..length]);
+    let rest = &file[start..length];
+    let count = within(frame.b as usize, rest);
+    copy(&rest[..count], &mut part);
+    let room = &mut file[length..];
+    let end = within(count, room);
+    copy(&part, &mut room[..end]);
+    Sizes {
+        file: length + end,
+        kept: sizes.kept,
+    }
+}
+
 // Frames that change how long the file is.
 pub(crate) fn resize(frame: Frame, sizes: Sizes, file: &mut [u8], kept: &mut [u8]) -> Sizes {
     let opcode = frame.opcode;
@@ -110,6 +127,7 @@ pub(crate) fn resize(frame: Frame, sizes: Sizes, file: &mut [u8], kept: &mut [u8
             kept: sizes.kept,
         },
         frame::WRITE => write::become_written(frame, sizes, file),
+        frame::REPEAT => repeat(frame, sizes, file),
         frame::GROW => grow(frame.a as usize, frame.small, sizes, file),
         _ => sizes,
     }

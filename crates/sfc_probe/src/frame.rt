@@ -18,6 +18,8 @@ pub(crate) const RESTORE: u8 = 12;
 pub(crate) const CUT: u8 = 13;
 // The file gets a bytes of the small number behind its end.
 pub(crate) const GROW: u8 = 14;
+// The file gets the b bytes at a behind its end as well.
+pub(crate) const REPEAT: u8 = 15;
 
 // Byte a becomes the small number; the two or four bytes from a on become the number b.
 pub(crate) const SET_BYTE: u8 = 20;
@@ -97,6 +99,12 @@ pub(crate) const BLOCK_SETS: u8 = 74;
 // file if it is written: S and M (4 bytes each), UUID (16), time (8), format, flags, name length and P (2 each), the fields'
 // length (4); then the name, P indices of 4 bytes, the fields, and all else as content.
 pub(crate) const WRITE: u8 = 72;
+
+// The file's listing is asked for, with an output of a bytes. The piece of lent memory that the small number names (1 store,
+// 2 marks, 3 scratch, 4 its numbers, 5 content, 6 bounds) has b parts in place of the right number; with 7 the file has b
+// bytes, of zeros behind its end, and may be a byte longer than else. Memory and output have a pattern before the call;
+// printed are what became of them, and the text.
+pub(crate) const LISTING: u8 = 75;
 
 pub(crate) struct Frame {
     pub(crate) opcode: u8,

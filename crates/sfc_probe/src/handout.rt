@@ -138,7 +138,7 @@ pub(crate) fn numbers_state(numbers: &[u16]) -> u8 {
     2
 }
 
-fn print_state(state: u8) {
+pub(crate) fn print_state(state: u8) {
     match state {
         0 => print::text(b"zeros"),
         1 => print::text(b"kept"),
@@ -193,7 +193,7 @@ fn numbers_room() -> [u16; 1025] {
 }
 
 // How many of the first n numbers a slice has.
-fn within(n: usize, numbers: &[u16]) -> usize
+pub(crate) fn within(n: usize, numbers: &[u16]) -> usize
     ensures { λ r. ⌜ Counts r (now (numbers .entry)) ⌝ }
 {
     edit::least(n, numbers.len())

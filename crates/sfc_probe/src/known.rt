@@ -11,7 +11,6 @@ use sfc::note::write_note;
 use sfc::prefix::Given;
 use sfc::prefix::prefix;
 use sfc::reason::number_of;
-use sfc::written::Written;
 
 fn print_given(given: Given) {
     match given {
@@ -30,13 +29,6 @@ fn print_listed(listed: Listed) {
     }
 }
 
-fn print_written(written: Written) {
-    match written {
-        Written::Bytes(length) => print::field(b"note ", length as u64),
-        Written::Refused(reason) => print::decimal(number_of(reason) as u64),
-    }
-}
-
 fn give(head: Head, store: &[u8], marks: &[u8], out: &mut [u8]) {
     let given = prefix(head, store, marks, out);
     print_given(given);
@@ -50,7 +42,7 @@ fn list(head: Head, marks: &[u8], out: &mut [u32]) {
 fn write(head: Head, marks: &[u8], out: &mut [u8]) {
     let uuid = head.uuid;
     let written = write_note(uuid, head.size, head.n, head.m, head.s, marks, out);
-    print_written(written);
+    print::written(b"note ", written);
 }
 
 // The prefix or the note into an output of that many bytes.

@@ -6,6 +6,7 @@ mod frame;
 mod handout;
 mod header;
 mod known;
+mod listing;
 mod note;
 mod print;
 mod run;
@@ -42,6 +43,10 @@ fn ask(frame: Frame, head: Head, file: &mut [u8]) -> Head {
             head
         }
         frame::SET_HEAD => header::with_number(frame, head),
+        frame::LISTING => {
+            listing::ask(frame, file);
+            head
+        }
         _ => {
             ask_part(frame, head, file);
             head

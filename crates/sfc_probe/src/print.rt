@@ -1,5 +1,7 @@
 // What the answers are printed with.
 use libc::STDOUT_FILENO;
+use sfc::reason::number_of;
+use sfc::written::Written;
 
 pub(crate) fn text(t: &[u8]) {
     io::write_all(STDOUT_FILENO, t);
@@ -55,4 +57,18 @@ pub(crate) fn numbers(numbers: &[u32]) {
 pub(crate) fn field(label: &[u8], n: u64) {
     text(label);
     decimal(n);
+}
+
+// A label and how many bytes were written, or the refusal's number. The answer is how many, and 0 with a refusal.
+pub(crate) fn written(label: &[u8], written: Written) -> usize {
+    match written {
+        Written::Bytes(length) => {
+            field(label, length as u64);
+            length
+        }
+        Written::Refused(reason) => {
+            decimal(number_of(reason) as u64);
+            0
+        }
+    }
 }

@@ -3,10 +3,8 @@ use crate::edit;
 use crate::edit::Sizes;
 use crate::frame::Frame;
 use crate::print;
-use sfc::reason::number_of;
 use sfc::writer::FileFacts;
 use sfc::writer::write;
-use sfc::written::Written;
 
 // The 16 bytes at 8.
 fn uuid_of(inputs: &[u8]) -> [u8; 16] {
@@ -38,20 +36,6 @@ fn put_indices(bytes: &[u8], list: &mut [u32]) -> usize {
     count
 }
 
-// The file's length, and 0 with a refusal.
-fn print_written(written: Written) -> usize {
-    match written {
-        Written::Bytes(length) => {
-            print::field(b"written ", length as u64);
-            length
-        }
-        Written::Refused(reason) => {
-            print::decimal(number_of(reason) as u64);
-            0
-        }
-    }
-}
-
 // The list, the fields and the content, behind the name.
 fn write_behind(inputs: &[u8], name: &[u8], rest: &[u8], out: &mut [u8]) -> usize {
     let mut room = [0u32; 2048];
@@ -60,14 +44,15 @@ fn write_behind(inputs: &[u8], name: &[u8], rest: &[u8], out: &mut [u8]) -> usiz
     let count = put_indices(&rest[..list_end], &mut room);
     let indices = crate::note::within(count, &room);
     let fields_end = edit::within(little::read32(inputs, 40) as usize, behind);
-    print_written(write(
+    let written = write(
         facts_of(inputs),
         &behind[fields_end..],
         name,
         &room[..indices],
         &behind[..fields_end],
         out,
-    ))
+    );
+    print::written(b"written ", written)
 }
 
 fn write_from(inputs: &[u8], out: &mut [u8]) -> usize {

@@ -28,12 +28,12 @@ struct Told {
 }
 
 /// What became of parts that had a pattern: 0 where all are zeros, 1 where all are as they were.
-fn state<T: Copy + Into<u64>>(parts: &[T], pattern: u64) -> usize {
+pub fn state<T: Copy + Into<u64>>(parts: &[T], pattern: u64) -> usize {
     let all = |value| parts.iter().all(|&part| part.into() == value);
     [all(0), all(pattern)].iter().position(|&holds| holds).unwrap_or(2)
 }
 
-fn state_word(state: usize) -> &'static str {
+pub fn state_word(state: usize) -> &'static str {
     ["zeros", "kept", "mixed"][state]
 }
 

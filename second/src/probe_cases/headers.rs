@@ -201,19 +201,20 @@ pub fn damaged_headers(script: &mut Script) {
     script.frame(HEADER_LENGTHS, 0, 0, 65_536);
 }
 
-pub fn header_order(script: &mut Script) {
-    // N = 5, M = 2; behind one index a field of two bytes
-    let plan = Plan { priorities: vec![0], fields: encoded(&[(0x0030, vec![0, 0])]), flags: 0x80, ..plan(18, 4, 2) };
-    let file = plan.file_around(&[]);
-    let trailer = file.len() - 64;
-    script.say("two checks of a header broken at once, each with each");
-    script.load(&file);
-    let breaches = [
+/// A header that can break each rule: N = 5, M = 2; behind one index a field of two bytes.
+pub fn breakable() -> Plan {
+    Plan { priorities: vec![0], fields: encoded(&[(0x0030, vec![0, 0])]), flags: 0x80, ..plan(18, 4, 2) }
+}
+
+/// A breach of each check of that header, in a file of so many bytes.
+pub fn breaches(length: usize) -> Vec<Breach> {
+    let trailer = length - 64;
+    vec![
         breach(11, &[Byte(0, 0)], &[]),
         breach(12, &[Byte(6, 2)], &[]),
         // sealed first: there is no region of this length to seal
         breach(13, &[], &[Four(at::H, 330)]),
-        breach(10, &[], &[Cut(file.len() - 1)]),
+        breach(10, &[], &[Cut(length - 1)]),
         // a size above 2^40, whatever the rest is
         breach(14, &[Four(at::SIZE + 4, 257)], &[]),
         breach(15, &[Four(at::S, 4098), Four(at::N, 1)], &[]),
@@ -226,8 +227,14 @@ pub fn header_order(script: &mut Script) {
         breach(21, &[Byte(at::LIST + 6, 3)], &[]),
         breach(22, &[], &[Byte(trailer + 4, 1)]),
         breach(23, &[], &[Byte(trailer + 8, 0x5A), Byte(trailer + 9, 0xA5)]),
-    ];
-    pairs(&breaches, |title, before, after| {
+    ]
+}
+
+pub fn header_order(script: &mut Script) {
+    let file = breakable().file_around(&[]);
+    script.say("two checks of a header broken at once, each with each");
+    script.load(&file);
+    pairs(&breaches(file.len()), |title, before, after| {
         script.say(title);
         script.edit(before);
         script.seal();

@@ -35,6 +35,19 @@ impl Script {
         self.0.extend(file);
     }
 
+    /// A file that is zeros but for few numbers.
+    pub fn load_sparse(&mut self, file: &[u8]) {
+        self.load(&[]);
+        self.frame(GROW, 0, file.len(), 0);
+        for (place, bytes) in file.chunks(4).enumerate() {
+            let value = bytes.iter().rev().fold(0, |high, &byte| high << 8 | usize::from(byte));
+            if value != 0 {
+                self.frame(SET_32, 0, 4 * place, value);
+            }
+        }
+        self.frame(KEEP, 0, 0, 0);
+    }
+
     pub fn edit(&mut self, edits: &[Edit]) {
         for &edit in edits {
             match edit {
