@@ -1,5 +1,5 @@
 // The SFC container: headers, chunks, the session of marks and blocks, the prefix, the hand-out, the block request, the resend
-// note, the writer. Every call takes any bytes, and a refusal gives document 01's number.
+// note, the writer, the listing. Every call takes any bytes, and a refusal gives document 01's number.
 pub mod block;
 mod checks;
 pub mod chunk;
