@@ -78,7 +78,7 @@ abbrev listedSeen : Listed → Checked
 listedSeen (Count k) = Good
 listedSeen (NotListed r) = Refused r
 
-abbrev writtenSeen : Written → Checked
+abbrev pub writtenSeen : Written → Checked
 writtenSeen (Took k) = Good
 writtenSeen (NotWritten r) = Refused r
 

@@ -50,7 +50,3 @@ pub mod RefusalLaws
 pub mod FieldInside
 pub mod Demand1
 pub mod Worked
-pub mod ListingLaws
-pub mod ListingWalk
-pub mod ListingSession
-pub mod ListingFile

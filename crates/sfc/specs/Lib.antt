@@ -23,7 +23,3 @@ pub mod Demand1
 pub mod Demand2
 pub mod Demand3
 pub mod Worked
-pub mod Text
-pub mod Listing
-pub mod ListingText
-pub mod ListingSteps

@@ -20,7 +20,7 @@ pub enum ChunkChecked {
 }
 
 // 30, 31, 32, 30: what must hold before the rest can be looked at.
-pub(crate) fn check_length(s: u32, c: &[u8]) -> Checked
+pub fn check_length(s: u32, c: &[u8]) -> Checked
     ensures { λ r. ⌜ r ≡ verdict (lengthChecks s (now (c .entry))) ⌝ }
 {
     let payload = little::read32(c, 28);

@@ -1,5 +1,5 @@
 // The SFC container: headers, chunks, the session of marks and blocks, the prefix, the hand-out, the block request, the resend
-// note, the writer, the listing. Every call takes any bytes, and a refusal gives document 01's number.
+// note, the writer. Every call takes any bytes, and a refusal gives document 01's number.
 pub mod block;
 mod checks;
 pub mod chunk;
@@ -9,18 +9,15 @@ pub mod handout;
 pub mod header;
 mod layout;
 mod limits;
-pub mod listing;
-mod listing_session;
-mod listing_text;
 pub mod lookup;
-mod marks;
+pub mod marks;
 pub mod missing;
 pub mod note;
 pub mod places;
 pub mod prefix;
 mod priority;
 pub mod reason;
-mod runs;
+pub mod runs;
 pub mod session;
 pub mod tallies;
 mod text;

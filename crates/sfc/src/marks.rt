@@ -2,7 +2,6 @@
 use crate::limits::is_shape_wrong;
 ghost use mathlib.Core.Path.{_≡_};
 ghost use Rattle.sfc.specs.Marks.{heldCount, marksFit, marksWrong};
-ghost use Rattle.sfc.specs.Listing.{barredCount};
 
 // Whether each mark is 0, 1 or 2.
 fn do_marks_fit(marks: &[u8]) -> bool
@@ -18,7 +17,7 @@ fn do_marks_fit(marks: &[u8]) -> bool
 }
 
 // V: how many marks say held; a barred index does not count.
-pub(crate) fn held_count(marks: &[u8]) -> usize
+pub fn held_count(marks: &[u8]) -> usize
     ensures { λ r. ⌜ r ≡ heldCount (now (marks .entry)) ⌝ }
 {
     let mut held = 0;
@@ -30,20 +29,6 @@ pub(crate) fn held_count(marks: &[u8]) -> usize
         }
     }
     held
-}
-
-pub(crate) fn barred_count(marks: &[u8]) -> usize
-    ensures { λ r. ⌜ r ≡ barredCount (now (marks .entry)) ⌝ }
-{
-    let mut barred = 0;
-    let mut i = marks.len();
-    while 0 < i {
-        i -= 1;
-        if marks[i] == 2 {
-            barred += 1;
-        }
-    }
-    barred
 }
 
 // 71, of the numbers handed in and the lent marks.

@@ -17,7 +17,7 @@ pub(crate) fn is_same(a: &[u8], b: &[u8]) -> bool
     equal
 }
 
-pub(crate) fn clear(d: &mut [u8])
+pub fn clear(d: &mut [u8])
     ensures { λ _. ⌜ now (d .exit) ≡ zeros (length (now (d .entry))) ⌝ }
 {
     let mut i = 0;
@@ -27,7 +27,7 @@ pub(crate) fn clear(d: &mut [u8])
     }
 }
 
-pub(crate) fn clear_numbers(numbers: &mut [u16])
+pub fn clear_numbers(numbers: &mut [u16])
     ensures { λ _. ⌜ now (numbers .exit) ≡ zeros (length (now (numbers .entry))) ⌝ }
 {
     let mut i = 0;
@@ -37,7 +37,7 @@ pub(crate) fn clear_numbers(numbers: &mut [u16])
     }
 }
 
-pub(crate) fn clear_indices(indices: &mut [u32])
+pub fn clear_indices(indices: &mut [u32])
     ensures { λ _. ⌜ now (indices .exit) ≡ zeros (length (now (indices .entry))) ⌝ }
 {
     let mut i = 0;

@@ -1,8 +1,8 @@
 // Reads a file from standard input and prints its listing.
 use libc::STDIN_FILENO;
 use libc::STDOUT_FILENO;
-use sfc::listing::listing;
 use sfc::written::Written;
+use sfc_listing::listing::listing;
 ghost use Rattle.io.specs.Counts.{Counts};
 
 // A byte more than the longest file that is listed, so that a longer one is known by its length.

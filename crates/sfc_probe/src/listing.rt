@@ -4,8 +4,8 @@ use crate::frame::Frame;
 use crate::handout;
 use crate::note;
 use crate::print;
-use sfc::listing::listing;
 use sfc::written::Written;
+use sfc_listing::listing::listing;
 
 // The pieces of lent memory, by the small number of a frame that gives one of them another length; then the file.
 const STORE: u8 = 1;

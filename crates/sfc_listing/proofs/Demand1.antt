@@ -1,0 +1,71 @@
+-- Demand 1 for the listing, proved (specs/Demand1). Assumes nothing.
+use Prim.Native.Nat.{ℕ}
+use mathlib.Core.Path.{_≡_, refl, sym, ap, _∙_}
+use mathlib.Core.Bool.{true, false, cond}
+use mathlib.Core.List.{List, [], _∷_}
+use native.Mathlib.Omega.{arith}
+use borrow.Author.Tests.{ltb-false}
+use lib.Dec.{eqb}
+use lib.ListN.{length}
+use Rattle.little.specs.Parts.{put}
+use Rattle.sfc.specs.Bytes.{any}
+use Rattle.sfc.specs.Numbers.{Check, checked, verdict, reasonOf, numberOf}
+use Rattle.sfc.specs.Demand1.{Leaves, Ends}
+use Rattle.sfc.specs.HandOut.{contentChecks}
+use Rattle.sfc.specs.Session.{Session}
+use Rattle.sfc.specs.declared.header.Head.{Head}
+use Rattle.sfc.specs.declared.reason.Reason.{Reason}
+use Rattle.sfc.specs.declared.reason.Checked.{Checked}
+use Rattle.sfc.specs.declared.reason.Checked.the-variants.{Good, Refused as Bad}
+use Rattle.sfc.specs.declared.written.Written.{Written}
+use Rattle.sfc.specs.declared.written.Written.the-variants.{Bytes, Refused}
+use Rattle.sfc_listing.specs.Text.{text}
+use Rattle.sfc_listing.specs.Listing.{lastWord, listingOf, Desk, cleared, listingChecks, listed}
+use Rattle.sfc_listing.specs.Demand1.{ListingDemand}
+use Rattle.sfc.proofs.CheckLaws.{passed, good-all, refused-all}
+use Rattle.sfc.proofs.RefusalLaws.{tells, leaves, ends}
+use Rattle.sfc.proofs.Demand1.{writtenSeen}
+use Rattle.sfc_listing.proofs.FitLaws.{listing-fits}
+
+module _ (f : List ℕ) (d : Desk) (out : List ℕ) where
+  told : (v : Checked) → writtenSeen (listed f d out .answer) ≡ v → verdict (listingChecks d out) ≡ v
+  unfolding listed
+  told v e = tells writtenSeen Refused (Bytes (length (listingOf f))) (λ q. refl) refl (listingChecks d out) v e
+
+  listing-refused : (r : Reason) → listed f d out .answer ≡ Refused r → Leaves r (71 ∷ 52 ∷ []) out (listed f d out .output) × (listed f d out .desk ≡ d)
+  unfolding listed any
+  listing-refused r e =
+      let t = told (Bad r) (ap writtenSeen e) in
+      (leaves (listingChecks d out) r (71 ∷ 52 ∷ []) out (put out 0 (listingOf f)) (refl, (refl, tt)) t, refused-all (λ (q : Reason). d) (listingChecks d out) (cleared d) r t)
+
+  listing-ends : (k : ℕ) → listed f d out .answer ≡ Bytes k → Ends k out (listed f d out .output) × (listed f d out .desk ≡ cleared d)
+  unfolding listed
+  listing-ends k e =
+      let cs : List Check = listingChecks d out in
+      let t = told Good (ap writtenSeen e) in
+      let g : _≡_ {A = Written} (Bytes (length (listingOf f))) (Bytes k) = sym (good-all Refused cs _ t) ∙ e in
+      let q : length (listingOf f) ≡ k = cc in
+      (ends cs out (listingOf f) k t q (omega (arith, listing-fits f, ltb-false (length out) 32768 (passed cs t .1 .0))), good-all (λ (r : Reason). d) cs (cleared d) t)
+
+-- the words differ, so the last one tells how the checks ended
+decided-good : (cs : List Check) → checked cs (λ (r : Reason). cond (eqb (numberOf r) 51) (text "hash differs") (text "incomplete")) (text "complete") ≡ text "complete" → verdict cs ≡ Good
+unfolding text
+decided-good [] e = refl
+decided-good ((true, k) ∷ cs) e = absurd (other (eqb (numberOf (reasonOf k)) 51) e)
+  where
+    other : (b : _) → cond b (text "hash differs") (text "incomplete") ≡ text "complete" → ⊥
+    other true z = omega (arith, ap length z)
+    other false z = omega (arith, ap length z)
+decided-good ((false, k) ∷ cs) e = decided-good cs e
+
+complete-only : (h : Head) (x : Session) → lastWord h x ≡ text "complete" → verdict (contentChecks h (x .store) (x .marks)) ≡ Good
+unfolding lastWord
+complete-only h x e = decided-good (contentChecks h (x .store) (x .marks)) e
+
+pub listing-demand : ListingDemand
+listing-demand = record {
+  listing-refused = listing-refused;
+  listing-ends = listing-ends;
+  listing-fits = listing-fits;
+  complete-only = complete-only;
+}

@@ -1,0 +1,159 @@
+-- No listing is longer than the room that it is given: every line at its longest, and at most 512 missing ranges. Assumes nothing.
+use Prim.Native.Nat.{ℕ, zero, suc, _+_, _*_, _/_, _%_, _≤_}
+use mathlib.Core.Path.{_≡_, refl}
+use mathlib.Core.Bool.{Bool, true, false, cond}
+use mathlib.Core.List.{List, [], _∷_, _++_}
+use native.Mathlib.Omega.{arith}
+use lib.Dec.{ltb, eqb}
+use lib.ListN.{length, length-append, length-replicate}
+use Rattle.sfc.specs.Bytes.{zeros}
+use Rattle.sfc.specs.Numbers.{Check, checked, verdict, reasonOf, numberOf}
+use Rattle.sfc.specs.Header.{regionOf, headOf, headerChecks}
+use Rattle.sfc.specs.Marks.{heldCount, marksWrong}
+use Rattle.sfc.specs.Session.{Session, lentWrong, sessionWrong}
+use Rattle.sfc.specs.Missing.{Range, missing, ranges}
+use Rattle.sfc.specs.HandOut.{contentChecks}
+use Rattle.sfc_listing.specs.Text.{text, digits, decimal, hex, line}
+use Rattle.sfc_listing.specs.Listing.{sessionOf, barredCount, missingLine, missingLines, lastWord, startText, sessionText, programChecks, refusedText, listingOf}
+use Rattle.sfc_listing.specs.Lines.{uuidLine, shapeLine, countsLine}
+use Rattle.sfc.specs.declared.header.Head.{Head}
+use Rattle.sfc.specs.declared.reason.Reason.{Reason}
+use Rattle.sfc.specs.declared.reason.Checked.the-variants.{Good}
+use Rattle.sfc.proofs.GatherLaws.{length-cut}
+use Rattle.sfc.proofs.HeaderLaws.{or-false}
+use Rattle.sfc.proofs.CheckLaws.{passed, all-passed}
+use Rattle.sfc.proofs.NoteExact.{note-theorems}
+use Rattle.sfc.proofs.RightLaws.{bytes-zeros, accepted-shape, blank-right}
+use Rattle.sfc_listing.proofs.WalkLaws.{all-lent}
+use Rattle.sfc_listing.proofs.FileLaws.{good-read}
+
+-- ---- pieces, and one behind the other
+
+both : (xs ys : List ℕ) (a b : ℕ) → length xs ≤ a → length ys ≤ b → length (xs ++ ys) ≤ a + b
+both xs ys a b h k = omega (arith, length-append xs ys)
+
+either : (b : Bool) (xs ys : List ℕ) (k : ℕ) → length xs ≤ k → length ys ≤ k → length (cond b xs ys) ≤ k
+either true xs ys k h g = h
+either false xs ys k h g = g
+
+-- a text that checks decide
+decided : (cs : List Check) (refused : Reason → List ℕ) (good : List ℕ) (k : ℕ) → ((r : Reason) → length (refused r) ≤ k) → (verdict cs ≡ Good → length good ≤ k)
+    → length (checked cs refused good) ≤ k
+decided [] refused good k h g = g refl
+decided ((true, n) ∷ cs) refused good k h g = h (reasonOf n)
+decided ((false, n) ∷ cs) refused good k h g = decided cs refused good k h g
+
+digits-short : (k v : ℕ) → length (digits k v) ≤ k
+unfolding digits
+digits-short zero v = omega arith
+digits-short (suc k) v =
+    either (ltb v 10) ((48 + v) ∷ []) (digits k (v / 10) ++ ((48 + v % 10) ∷ [])) (suc k) (omega arith)
+    (omega (arith, length-append (digits k (v / 10)) ((48 + v % 10) ∷ []), digits-short k (v / 10)))
+
+hex-long : (b : List ℕ) → length (hex b) ≡ 2 * length b
+unfolding hex
+hex-long [] = refl
+hex-long (x ∷ b) = omega (arith, hex-long b)
+
+-- a word and its number, and the same behind other text
+named : (word : List ℕ) (v a : ℕ) → length word ≡ a → length (word ++ decimal v) ≤ a + 20
+named word v a e = both word (decimal v) a 20 (omega arith) (digits-short 20 v)
+
+and-named : (front word : List ℕ) (v a b : ℕ) → length front ≤ a → length word ≡ b → length (front ++ word ++ decimal v) ≤ a + b + 20
+and-named front word v a b h e = both (front ++ word) (decimal v) (a + b) 20 (both front word a b h (omega arith)) (digits-short 20 v)
+
+ended : (t : List ℕ) (k : ℕ) → length t ≤ k → length (line t) ≤ k + 1
+ended t k h = both t (10 ∷ []) k 1 h (omega arith)
+
+-- ---- the lines
+
+uuid-short : (uuid : List ℕ) → length uuid ≤ 16 → length (uuidLine uuid) ≤ 42
+unfolding text
+uuid-short uuid h = ended (text "sfc uuid=" ++ hex uuid) 41 (both (text "sfc uuid=") (hex uuid) 9 32 (omega arith) (omega (arith, hex-long uuid)))
+
+shape-short : (n m size s : ℕ) → length (shapeLine n m size s) ≤ 111
+unfolding text
+shape-short n m size s =
+    let shown₁ : List ℕ = text "blocks=" ++ decimal n in
+    let shown₂ : List ℕ = shown₁ ++ text " recovery=" ++ decimal m in
+    let shown₃ : List ℕ = shown₂ ++ text " size=" ++ decimal size in
+    ended (shown₃ ++ text " block=" ++ decimal s) 110
+    (and-named shown₃ (text " block=") s 83 7
+    (and-named shown₂ (text " size=") size 57 6 (and-named shown₁ (text " recovery=") m 27 10 (named (text "blocks=") n 7 refl) refl) refl) refl)
+
+counts-short : (held barred : ℕ) → length (countsLine held barred) ≤ 54
+unfolding text
+counts-short held barred =
+    let shown : List ℕ = text "held=" ++ decimal held in
+    ended (shown ++ text " barred=" ++ decimal barred) 53 (and-named shown (text " barred=") barred 25 8 (named (text "held=") held 5 refl) refl)
+
+missing-short : (rs : List Range) → length (missingLines rs) ≤ 50 * length rs
+unfolding missingLines text
+missing-short [] = omega arith
+missing-short (r ∷ rs) =
+    let first : List ℕ = text "missing " ++ decimal (r .first) in
+    let one : length (missingLine r) ≤ 50 =
+    ended (first ++ text "-" ++ decimal (r .last)) 49 (and-named first (text "-") (r .last) 28 1 (named (text "missing ") (r .first) 8 refl) refl) in
+    omega (arith, length-append (missingLine r) (missingLines rs), missing-short rs)
+
+refused-short : (number : ℕ) → length (refusedText number) ≤ 29
+unfolding refusedText text
+refused-short number = ended (text "refused " ++ decimal number) 28 (named (text "refused ") number 8 refl)
+
+word-short : (h : Head) (x : Session) → length (lastWord h x) ≤ 12
+unfolding lastWord text
+word-short h x =
+    decided (contentChecks h (x .store) (x .marks)) (λ (r : Reason). cond (eqb (numberOf r) 51) (text "hash differs") (text "incomplete")) (text "complete") 12
+    (λ r. either (eqb (numberOf r) 51) (text "hash differs") (text "incomplete") 12 (omega arith) (omega arith)) (λ e. omega arith)
+
+-- ---- the whole
+
+start-short : (uuid : List ℕ) (n m size s held barred : ℕ) → length uuid ≤ 16 → length (startText uuid n m size s held barred) ≤ 207
+unfolding startText
+start-short uuid n m size s held barred u =
+    both (uuidLine uuid ++ shapeLine n m size s) (countsLine held barred) 153 54
+    (both (uuidLine uuid) (shapeLine n m size s) 42 111 (uuid-short uuid u) (shape-short n m size s)) (counts-short held barred)
+
+module _ (h : Head) (x : Session) (right : sessionWrong h x ≡ false) (u : length (h .uuid) ≤ 16) where
+  abbrev rs : List Range
+  rs = ranges (missing (h .n) (x .marks))
+
+  marks-right : marksWrong (h .size) (h .n) (h .m) (h .s) (x .marks) ≡ false
+  unfolding lentWrong
+  marks-right = or-false _ _ right .0
+
+  few-ranges : length rs ≤ 512
+  few-ranges = note-theorems .note-written (zeros 16) (h .size) (h .n) (h .m) (h .s) (x .marks) (length-replicate {A = ℕ} 16 0) (bytes-zeros 16) marks-right .1
+
+  session-short : length (sessionText h x) ≤ 25820
+  unfolding sessionText
+  session-short =
+      let start : List ℕ = startText (h .uuid) (h .n) (h .m) (h .size) (h .s) (heldCount (x .marks)) (barredCount (x .marks)) in
+      both (start ++ missingLines rs) (line (lastWord h x)) 25807 13
+      (both start (missingLines rs) 207 25600 (start-short (h .uuid) (h .n) (h .m) (h .size) (h .s) (heldCount (x .marks)) (barredCount (x .marks)) u) (omega (arith, missing-short rs, few-ranges)))
+      (ended (lastWord h x) 12 (word-short h x))
+
+front-good : (cs ds : List Check) → verdict (cs ++ ds) ≡ Good → verdict cs ≡ Good
+front-good [] ds e = refl
+front-good ((true, k) ∷ cs) ds e = e
+front-good ((false, k) ∷ cs) ds e = front-good cs ds e
+
+module _ (f : List ℕ) where
+  abbrev head : Head
+  head = headOf (regionOf f)
+
+  header-good : verdict (programChecks head f) ≡ Good → verdict (headerChecks f) ≡ Good
+  header-good e =
+      let limit : List Check = (ltb 32768 ((head .n + head .m) * head .s), 15) ∷ [] in
+      front-good (headerChecks f) limit (all-passed (headerChecks f ++ limit) (passed (programChecks head f) e .1))
+
+  session-right : verdict (headerChecks f) ≡ Good → sessionWrong head (sessionOf head f) ≡ false
+  unfolding sessionOf
+  session-right g = all-lent head _ _ (blank-right head (accepted-shape f head (good-read f g)) .lent)
+
+  pub listing-fits : length (listingOf f) ≤ 32768
+  unfolding listingOf
+  listing-fits =
+      decided (programChecks head f) (λ (r : Reason). refusedText (numberOf r)) (sessionText head (sessionOf head f)) 32768
+      (λ r. omega (arith, refused-short (numberOf r)))
+      (λ e. omega (arith, session-short head (sessionOf head f) (session-right (header-good e)) (length-cut (regionOf f) 4 16)))

@@ -1,0 +1,24 @@
+-- `sfc_listing::lines::put_session` meets its contract, line by line. Assumes nothing.
+use Rattle.sfc_listing.specs.Lines.{wordOf}
+use Rattle.sfc_listing.proofs.LineLaws.{session-made}
+use borrow.Author.Needs.{needs}
+use Rattle.sfc_listing.proofs.lines.put_session.Statement.{statement}
+use Rattle.sfc_listing.proofs.lines.put_session.Tie as tie
+
+returns : tie.Need-returns
+returns c =
+    let s = c .before .before .before .before .before .before .before .before .before .before .before .before .before .before .before .before .before .before .before .before .before .before in
+    let a = s .args in
+    session-made (a .uuid) (a .n) (a .m) (a .size) (a .s) (a .held) (a .barred) (a .bounds .now) (wordOf (a .last)) (s .pre) (c .before .before .before .before .before .before .before .before .before .before .before .before .before .before .before .before .before .before .put-uuid .ensures) (c .before .before .before .before .before .before .before .before .before .before .before .before .before .before .put-shape .ensures) (c .before .before .before .before .before .before .before .before .before .before .put-counts .ensures) (c .before .before .before .before .before .before .put-missing .ensures) (c .before .before .put-word .ensures)
+
+pub put-session-spec : {M : Type 1} → statement M
+put-session-spec =
+    tie.close
+    (tie.spec
+    (λ c κs. search needs)
+    (λ c κs. search needs)
+    (λ c κs. search needs)
+    (λ c κs. search needs)
+    (λ c κs. search needs)
+    (λ c. search needs)
+    returns)

@@ -1,0 +1,42 @@
+-- `sfc_listing::listing::listing` meets its contract, by its three answers. Assumes nothing.
+use mathlib.Core.Path.{_≡_, _∙_}
+use mathlib.Core.Bool.{true, false}
+use native.Mathlib.Omega.{arith}
+use Rattle.sfc_listing.specs.Listing.{Desk}
+use Rattle.sfc_listing.proofs.FileLaws.{desk-told, cleared-same, listed-wrong, listed-short, listed-good}
+use borrow.Author.Needs.{needs}
+use Rattle.sfc_listing.proofs.listing.listing.Statement.{statement}
+use Rattle.sfc_listing.proofs.listing.listing.Tie as tie
+
+returns : tie.Need-returns
+returns c = let a = c .before .before .before .before .before .before .before .before .before .before .args in listed-wrong (a .file .now) (record { store = a .store .now; marks = a .marks .now; scratch = a .scratch .now; numbers = a .numbers .now; content = a .content .now; bounds = a .bounds .now }) (a .out .now) (desk-told (record { store = a .store .now; marks = a .marks .now; scratch = a .scratch .now; numbers = a .numbers .now; content = a .content .now; bounds = a .bounds .now }) _ _ (c .before .is-desk-wrong .ensures) (c .if1 .taken))
+
+returns-2 : tie.Need-returns-2
+returns-2 c = let a = c .before .before .before .before .before .before .before .before .before .before .before .args in listed-short (a .file .now) (record { store = a .store .now; marks = a .marks .now; scratch = a .scratch .now; numbers = a .numbers .now; content = a .content .now; bounds = a .bounds .now }) (a .out .now) (desk-told (record { store = a .store .now; marks = a .marks .now; scratch = a .scratch .now; numbers = a .numbers .now; content = a .content .now; bounds = a .bounds .now }) _ _ (c .before .before .is-desk-wrong .ensures) (c .before .if1 .left)) (c .if2 .taken)
+
+list-file-requires : tie.Need-list-file-requires
+list-file-requires c κs = let a = c .before .before .before .before .before .before .before .before .before .before .before .before .before .before .before .before .before .before .args in ((desk-told (record { store = a .store .now; marks = a .marks .now; scratch = a .scratch .now; numbers = a .numbers .now; content = a .content .now; bounds = a .bounds .now }) _ _ (c .before .before .before .before .before .before .before .before .before .is-desk-wrong .ensures) (c .before .before .before .before .before .before .before .before .if1 .left)), c .before .before .before .before .before .before .before .if2 .left)
+
+returns-3 : tie.Need-returns-3
+returns-3 c =
+    let a = c .before .before .before .before .before .before .before .before .before .before .before .before .before .before .before .before .before .before .before .before .before .before .before .before .before .before .before .before .before .before .before .before .before .before .before .before .before .before .before .before .before .before .before .before .before .before .before .before .before .before .before .before .args in
+    let k = c .before .before .before .before .before .before .before .before .before .before .before .before .before .before .before .before .before .before .before .before .before .before .before .before .before .before .before .before .before .before .before .before .before .list-file .kept in
+    listed-good (a .file .now) (record { store = a .store .now; marks = a .marks .now; scratch = a .scratch .now; numbers = a .numbers .now; content = a .content .now; bounds = a .bounds .now }) (a .out .now) (desk-told (record { store = a .store .now; marks = a .marks .now; scratch = a .scratch .now; numbers = a .numbers .now; content = a .content .now; bounds = a .bounds .now }) _ _ (c .before .before .before .before .before .before .before .before .before .before .before .before .before .before .before .before .before .before .before .before .before .before .before .before .before .before .before .before .before .before .before .before .before .before .before .before .before .before .before .before .before .before .before .is-desk-wrong .ensures) (c .before .before .before .before .before .before .before .before .before .before .before .before .before .before .before .before .before .before .before .before .before .before .before .before .before .before .before .before .before .before .before .before .before .before .before .before .before .before .before .before .before .before .if1 .left)) (c .before .before .before .before .before .before .before .before .before .before .before .before .before .before .before .before .before .before .before .before .before .before .before .before .before .before .before .before .before .before .before .before .before .before .before .before .before .before .before .before .before .if2 .left) _ _ _ (c .before .before .before .before .before .before .before .before .before .before .before .before .before .before .before .before .before .before .before .before .before .before .before .before .before .before .before .before .before .before .before .before .before .list-file .ensures) (c .before .before .before .before .before .before .before .before .before .before .before .before .clear-desk .ensures ∙ cleared-same _ (record { store = a .store .now; marks = a .marks .now; scratch = a .scratch .now; numbers = a .numbers .now; content = a .content .now; bounds = a .bounds .now }) (k .1 .0) (k .1 .1 .0) (k .1 .1 .1 .0) (k .1 .1 .1 .1 .0) (k .1 .1 .1 .1 .1 .0) (k .1 .1 .1 .1 .1 .1 .0))
+
+pub listing-spec : {M : Type 1} → statement M
+listing-spec =
+    tie.close
+    (tie.spec
+    (λ c κs. search needs)
+    returns
+    returns-2
+    list-file-requires
+    (λ c κs. search needs)
+    (λ c. search needs)
+    (λ c. search needs)
+    (λ c. search needs)
+    (λ c. search needs)
+    (λ c. search needs)
+    (λ c. search needs)
+    (λ c. search needs)
+    returns-3)

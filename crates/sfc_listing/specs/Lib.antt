@@ -1,0 +1,5 @@
+pub mod Text
+pub mod Listing
+pub mod Lines
+pub mod Steps
+pub mod Demand1
