@@ -1,12 +1,12 @@
--- `running-any-cut`: what a record holds of the text fed so far, that each byte keeps it, and that the finish is the hash.
--- Assumes nothing.
+-- `running-any-cut`: what a record holds of the text fed so far, that each byte keeps it, and that the finish is the hash; and
+-- what that says of two parts. Assumes nothing.
 use mathlib.Core.Path.{_≡_, refl, sym, ap, _∙_}
-use mathlib.Core.Bool.{true, false}
+use mathlib.Core.Bool.{Bool, true, false}
 use Prim.Native.Nat.{ℕ, zero, suc, _+_, _-_, _*_, _/_, _%_, _^_, _<_, _≤_}
 use native.Mathlib.Omega.{arith}
 use native.Mathlib.Nat.{add-zero}
-use borrow.Author.Tests.{eqb-true, eqb-false, le-ltb}
-use lib.Dec.{eqb, eqb·suc-zero}
+use borrow.Author.Tests.{eqb-true, eqb-false, ltb-false, le-ltb}
+use lib.Dec.{eqb, eqb·suc-zero, ltb}
 use lib.ListN.{set, length, take, drop, replicate, length-set, length-drop, length-append, length-replicate}
 use lib.Seq.{take-all, drop-append-le, drop-append-seam, take-suc-set, append-snoc}
 use mathlib.Core.List.{List, [], _∷_, _++_, append-assoc, append-nil}
@@ -15,7 +15,7 @@ use Rattle.little.proofs.PartLaws.{length-put, part-put, part-put-apart}
 use mathlib.Core.Logic.{inl}
 use Rattle.blake3.specs.Compress.{compressed, folded}
 use Rattle.blake3.specs.Tree.{piece, parent, tree, hash}
-use Rattle.blake3.specs.Running.{mostFed, slot, pushed, rootFlag, joinedAt, closed, isFull, settled, withByte, withBytes, fresh, fedWith, piecesDone, ending, finished, fedAll, AllTaken, joined, RunningAnyCut, FedBytes}
+use Rattle.blake3.specs.Running.{mostFed, slot, pushed, rootFlag, joinedAt, closed, isFull, settled, withByte, withBytes, fresh, fedWith, piecesDone, ending, refusedFinish, finished, hashedTwo, fedAll, AllTaken, joined, RunningAnyCut, FedBytes}
 use Rattle.blake3.specs.declared.running.Running.{Running}
 use Rattle.blake3.specs.declared.running.Fed.{Fed}
 use Rattle.blake3.specs.declared.running.Finished.{Finished}
@@ -366,3 +366,17 @@ pub running-any-cut : RunningAnyCut
 running-any-cut parts le =
     let q = all-taken parts fresh [] (omega arith) holds-fresh in
     record { taken = q .0; same = finish-holds (fedAll fresh parts) (joined parts) le (q .1) }
+
+-- ---- two parts through one record
+
+module _ (first second : List ℕ) {t : Bool} (told : t ≡ ltb mostFed (length first + length second)) where
+  pub two-refused : {f : Finished} → t ≡ true → f ≡ refusedFinish → f ≡ hashedTwo first second
+  unfolding hashedTwo
+  two-refused w ef = rw (← told, w, ef)
+
+  pub two-done : {f : Finished} → t ≡ false → f ≡ finished (fedAll fresh (first ∷ second ∷ [])) → f ≡ hashedTwo first second
+  unfolding hashedTwo joined
+  two-done w ef =
+      let one : joined (first ∷ second ∷ []) ≡ first ++ second = ap (λ (l : List ℕ). first ++ l) (append-nil second) in
+      let le : length (joined (first ∷ second ∷ [])) ≤ mostFed = omega (arith, ltb-false mostFed (length first + length second) (sym told ∙ w), length-append first second, ap (λ (l : List ℕ). length l) one) in
+      rw (← told, w) (ef ∙ running-any-cut (first ∷ second ∷ []) le .same ∙ ap (λ (l : List ℕ). record { answer = Done; hash = hash l }) one)

@@ -7,13 +7,13 @@ use native.Mathlib.Omega.{arith}
 use native.Mathlib.Nat.{add-zero}
 use borrow.Author.Tests.{ne-eqb, eqb-true, eqb-false, ltb-false, not-true}
 use lib.Dec.{ltb, eqb}
-use lib.ListN.{set, length, take, drop, replicate, length-set, length-drop, take-append-drop, drop-of-length-le}
+use lib.ListN.{set, length, take, drop, length-set, length-drop, take-append-drop, drop-of-length-le}
 use lib.Seq.{take-suc-set, drop-set-lt, drop-drop, length-take-le}
 use mathlib.Core.List.{List, [], _∷_, _++_, append-assoc}
 use Rattle.little.specs.Parts.{put}
 use Rattle.blake3.specs.Compress.{bytesOfWords}
 use Rattle.blake3.specs.Tree.{piece}
-use Rattle.blake3.specs.Running.{mostFed, pushed, closed, rootFlag, isFull, settled, withByte, withBytes, fedWith, piecesDone, ending, finished}
+use Rattle.blake3.specs.Running.{mostFed, pushed, closed, rootFlag, isFull, settled, withByte, withBytes, fedWith, piecesDone, ending, refusedFinish, finished}
 use Rattle.blake3.specs.declared.running.Running.{Running}
 use Rattle.blake3.specs.declared.running.Fed.{Fed}
 use Rattle.blake3.specs.declared.running.Finished.{Finished}
@@ -140,11 +140,11 @@ unfolding ending
 ending-made fed t bytes s et eo ec er = rw (er, ec, eo, et)
 
 module _ (r : Running) {t : Bool} (told : t ≡ ltb mostFed (r .fed + 0)) where
-  pub finish-refused : t ≡ true → _≡_ {A = Finished} (record { answer = Refused RunningHash; hash = replicate 32 0 }) (finished r)
+  pub finish-refused : {f : Finished} → t ≡ true → f ≡ refusedFinish → f ≡ finished r
   unfolding finished
-  finish-refused w =
+  finish-refused w ef =
       let e : ltb mostFed (r .fed) ≡ true = rw add-zero at (sym told ∙ w) in
-      rw e
+      rw (e, ef)
 
   pub finish-done : {h w : List ℕ} → t ≡ false → h ≡ bytesOfWords w → w ≡ ending (r .fed) (r .piece) (r .stack)
       → _≡_ {A = Finished} (record { answer = Done; hash = h }) (finished r)

@@ -104,19 +104,31 @@ ending fed bytes stack =
     let t = piecesDone fed in
     closed 30 0 t (piece t (rootFlag t) (take (fed - t * 1024) bytes)) stack
 
+-- a finish refused by 72: zeros beside it
+abbrev pub refusedFinish : Finished
+refusedFinish = record { answer = Refused RunningHash; hash = replicate 32 0 }
+
 -- finishing: refused by 72, with zeros, where the count is above what can have been fed
 unfoldable pub finished : Running → Finished
 finished r =
-    let refused : Finished = record { answer = Refused RunningHash; hash = replicate 32 0 } in
     let done : Finished = record { answer = Done; hash = bytesOfWords (ending (r .fed) (r .piece) (r .stack)) } in
-    cond (ltb mostFed (r .fed)) refused done
+    cond (ltb mostFed (r .fed)) refusedFinish done
 
--- What 72 is given for, of any record and any part, and that it changes nothing. Proved in proofs/Refusals.antt
+-- the hash of two parts, one after the other: refused by 72, with zeros, where they are more bytes together than may be fed
+unfoldable pub hashedTwo : List ℕ → List ℕ → Finished
+hashedTwo first second =
+    let done : Finished = record { answer = Done; hash = hash (first ++ second) } in
+    cond (ltb mostFed (length first + length second)) refusedFinish done
+
+-- What 72 is given for, of any record and any part, and that it changes nothing; and of two parts hashed at once. Proved in
+-- proofs/Refusals.antt
 pub record Refusals (r : Running) (xs : List ℕ) : Type 0 where
   pub feed-number : answerNumber (fedWith r xs .answer) ≡ cond (ltb mostFed (r .fed + length xs)) 72 0
   pub feed-leaves : mostFed < r .fed + length xs → fedWith r xs .state ≡ r
   pub finish-number : answerNumber (finished r .answer) ≡ cond (ltb mostFed (r .fed)) 72 0
   pub finish-zeros : mostFed < r .fed → finished r .hash ≡ replicate 32 0
+  pub two-number : (ys : List ℕ) → answerNumber (hashedTwo xs ys .answer) ≡ cond (ltb mostFed (length xs + length ys)) 72 0
+  pub two-zeros : (ys : List ℕ) → mostFed < length xs + length ys → hashedTwo xs ys .hash ≡ replicate 32 0
 
 -- For a loop that feeds: a record that was fed xs has that many bytes more, and a fresh one ends with the hash of xs. Proved in
 -- proofs/AnyCut.antt

@@ -1,7 +1,10 @@
-// The running hash as one record updated in place: two thin functions over the methods by value.
+// The running hash as one record updated in place: two thin functions over the methods by value, and the hash of two parts
+// through both.
 use crate::running::Answer;
 use crate::running::Finished;
 use crate::running::Running;
+use crate::running::refused_finish;
+use crate::running::too_many;
 ghost use mathlib.Core.List.{[], _∷_};
 ghost use mathlib.Core.Path.{_≡_};
 ghost use Rattle.blake3.specs.Running as spec;
@@ -22,12 +25,23 @@ pub fn finish_in_place(state: &Running) -> Finished
     Running::finish(*state)
 }
 
-// The hash of two parts through one record of its own, fed in place: what a caller of the pair does, with plain parameters.
-pub fn hash_two_in_place(first: &[u8], second: &[u8]) -> Finished
+// Two parts fed in place to one record of its own, and the finish: what a caller of the pair does, with plain parameters. A feed
+// that is refused leaves its part out, so the caller tests the lengths first.
+pub(crate) fn through_one_record(first: &[u8], second: &[u8]) -> Finished
     ensures { λ r. ⌜ r ≡ spec.finished (spec.fedAll spec.fresh (now (first .entry) ∷ now (second .entry) ∷ [])) ⌝ }
 {
     let mut state = Running::new();
     feed_in_place(&mut state, first);
     feed_in_place(&mut state, second);
     finish_in_place(&state)
+}
+
+// The hash of two parts that stand one after the other, or a refusal and zeros where they are too long together.
+pub fn hash_two_in_place(first: &[u8], second: &[u8]) -> Finished
+    ensures { λ r. ⌜ r ≡ spec.hashedTwo (now (first .entry)) (now (second .entry)) ⌝ }
+{
+    if too_many(first.len() as u64, second.len()) {
+        return refused_finish();
+    }
+    through_one_record(first, second)
 }

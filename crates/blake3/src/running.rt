@@ -76,13 +76,23 @@ fn place(bytes: &mut [u8], at: usize, part: &[u8])
 }
 
 // More bytes in all than may be fed.
-fn too_many(fed: u64, more: usize) -> bool
+pub(crate) fn too_many(fed: u64, more: usize) -> bool
     ensures { λ r. ⌜ r ≡ ltb spec.mostFed (fed + more) ⌝ }
 {
     if MOST_FED < fed {
         return true;
     }
     MOST_FED - fed < (more as u64)
+}
+
+// What a refused finish gives.
+pub(crate) fn refused_finish() -> Finished
+    ensures { λ r. ⌜ r ≡ spec.refusedFinish ⌝ }
+{
+    Finished {
+        answer: Answer::Refused(Reason::RunningHash),
+        hash: [0u8; 32],
+    }
 }
 
 // How many pieces are in the stack: all but the last, which may be full.
@@ -160,10 +170,7 @@ impl Running {
     {
         let fed = self.fed;
         if too_many(fed, 0) {
-            return Finished {
-                answer: Answer::Refused(Reason::RunningHash),
-                hash: [0u8; 32],
-            };
+            return refused_finish();
         }
         let bytes = self.piece;
         let stack = self.stack;

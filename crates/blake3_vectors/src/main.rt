@@ -121,7 +121,7 @@ fn long_texts(text: &[u8]) {
     at_once(text, 8193);
     at_once(text, 16384);
     at_once(text, 31744);
-    at_once(text, 65536);
+    at_once(text, 102400);
 }
 
 fn cut_texts(text: &[u8]) {
@@ -142,11 +142,11 @@ fn cut_texts(text: &[u8]) {
     in_parts(text, 8193, 700);
     in_parts(text, 16384, 1024);
     in_parts(text, 31744, 3000);
-    in_parts(text, 65536, 65536);
+    in_parts(text, 102400, 65536);
 }
 
 fn main() {
-    let mut text = [0u8; 65536];
+    let mut text = [0u8; 102400];
     fill(&mut text);
     short_texts(&text);
     long_texts(&text);

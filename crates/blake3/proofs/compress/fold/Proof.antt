@@ -1,7 +1,6 @@
 -- `blake3::compress::fold` meets its contract. Assumes nothing.
 use mathlib.Core.Path.{refl}
 use Rattle.blake3.specs.Compress.{folded}
-use borrow.Author.Needs.{needs}
 use Rattle.blake3.proofs.compress.fold.Statement.{statement}
 use Rattle.blake3.proofs.compress.fold.Tie as tie
 

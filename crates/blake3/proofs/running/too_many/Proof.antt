@@ -1,7 +1,6 @@
 -- `blake3::running::too_many` meets its contract. Assumes nothing.
 use Rattle.blake3.proofs.StackLaws.{above, room-test}
 use Rattle.blake3.specs.Running.{mostFed}
-use borrow.Author.Needs.{needs}
 use Rattle.blake3.proofs.running.too_many.Statement.{statement}
 use Rattle.blake3.proofs.running.too_many.Tie as tie
 
