@@ -9,15 +9,7 @@ slice=5000
 room=target/flood
 mkdir -p "$room"
 rustc --edition 2021 -C opt-level=3 -o "$room/second" second/src/main.rs
-[ -x target/bin/sfc_probe ] || rt check sfc_probe
-kit=$(cd "$(dirname "$(rt doc)")/.." && pwd -P)
-tools=$kit/on/$(uname -m)/toolchain
-emulator=$tools/bin/qemu-x86_64
-[ -x "$emulator" ] || emulator=
-
-probe() {
-  ${emulator:+"$emulator"} "$tools/lib/ld-linux-x86-64.so.2" --library-path "$tools/lib" target/bin/sfc_probe
-}
+rt check sfc_probe
 
 # Says which file of the slice the two programs differ on, and how.
 report() {
@@ -34,7 +26,7 @@ done_files=0
 while [ "$done_files" -lt "$files" ]; do
   "$room/second" flood "$seed" "$slice" >"$room/frames"
   "$room/second" sfc_probe <"$room/frames" >"$room/second.out"
-  probe <"$room/frames" >"$room/probe.out"
+  .ci/program sfc_probe <"$room/frames" >"$room/probe.out"
   if ! cmp -s "$room/second.out" "$room/probe.out"; then
     report
     exit 1

@@ -68,8 +68,7 @@ pub fn example() -> Vec<u8> {
         name: b"pass.bin".to_vec(),
         ..Plan::default()
     };
-    let chunks = plan.chunks();
-    plan.file_around(&[0, 2, 4].map(|index: usize| chunks[index].clone()).concat())
+    plan.file_around(&plan.chunks_of(&[0, 2, 4]))
 }
 
 /// Writes that file.

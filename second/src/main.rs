@@ -9,6 +9,7 @@ mod field_vectors;
 mod flood;
 mod hand_out;
 mod listing;
+mod listing_cases;
 mod note;
 mod probe;
 mod probe_cases;
@@ -18,6 +19,8 @@ mod writer;
 const USAGE: &str =
     "usage: second PROGRAM, where PROGRAM is gf16_vectors, blake3_vectors, cauchy_vectors, sfc_probe or sfc_list;
        second cases PROGRAM, for the input that sfc_probe or sfc_list is run on;
+       second listings, for the names of the other files that sfc_list is run on;
+       second listing NAME, for one of these;
        second flood SEED COUNT, for frames of that many spoilt files, the same for the same seed;
        second hash LENGTH, for the BLAKE3 hash of so many bytes i mod 251";
 
@@ -32,6 +35,8 @@ fn main() {
         ["sfc_list"] => listing::print(),
         ["cases", "sfc_probe"] => probe_cases::write(),
         ["cases", "sfc_list"] => listing::write_case(),
+        ["listings"] => listing_cases::print_names(),
+        ["listing", name] => listing_cases::write(name),
         ["flood", seed, count] => {
             flood::write(seed.parse().expect("SEED is a number"), count.parse().expect("COUNT is a number"));
         }

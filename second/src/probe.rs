@@ -394,11 +394,9 @@ impl Probe {
     }
 }
 
-/// Answers the frames of standard input.
-pub fn print() {
-    let mut bytes = Vec::new();
-    std::io::stdin().read_to_end(&mut bytes).expect("standard input can be read");
-    let mut input = Input(bytes.into_iter());
+/// Answers frames, and gives what is at hand behind the last.
+fn answer(frames: Vec<u8>) -> Probe {
+    let mut input = Input(frames.into_iter());
     // before a header is read, chunks are held to one of zeros
     let head = Head { uuid: vec![0; 16], hash: vec![0; 32], ..Head::default() };
     let session = Session::new(&head, Vec::new(), Vec::new());
@@ -406,7 +404,7 @@ pub fn print() {
     loop {
         let frame = input.take(10);
         if frame.len() < 10 || frame[0] == 0 {
-            return;
+            return probe;
         }
         let (opcode, small, a, b) = (frame[0], frame[1], number(&frame[2..6]), number(&frame[6..]));
         match opcode {
@@ -424,4 +422,16 @@ pub fn print() {
             }
         }
     }
+}
+
+/// Answers the frames of standard input.
+pub fn print() {
+    let mut frames = Vec::new();
+    std::io::stdin().read_to_end(&mut frames).expect("standard input can be read");
+    answer(frames);
+}
+
+/// The file that frames leave; they ask for nothing that is printed.
+pub fn file_left(frames: Vec<u8>) -> Vec<u8> {
+    answer(frames).file
 }

@@ -4,7 +4,7 @@ mod chance;
 mod chunks;
 mod extensions;
 mod handouts;
-mod headers;
+pub mod headers;
 mod histories;
 mod listings;
 mod notes;
@@ -15,6 +15,7 @@ mod writes;
 use crate::flood;
 use crate::probe::*;
 pub use chance::Chance;
+pub use histories::others;
 pub use script::*;
 use std::io::Write;
 

@@ -100,6 +100,12 @@ impl Plan {
         numbered.map(|(index, (block, kind))| self.chunk(index, kind, &block)).collect()
     }
 
+    /// The chunks with these indices, one behind the other.
+    pub fn chunks_of(&self, indices: &[usize]) -> Vec<u8> {
+        let chunks = self.chunks();
+        indices.iter().flat_map(|&index| chunks[index].clone()).collect()
+    }
+
     /// A file with some of its chunks, or any other bytes, between region and trailer.
     pub fn file_around(&self, middle: &[u8]) -> Vec<u8> {
         let region = self.region();

@@ -15,7 +15,8 @@ fn extended(flags: u16, extension: &[u8]) -> Vec<u8> {
     file
 }
 
-fn field(tag: u16, length: u32, value: usize) -> Vec<u8> {
+/// A field with a length that need not be its value's.
+pub fn field(tag: u16, length: u32, value: usize) -> Vec<u8> {
     [&tag.to_le_bytes()[..], &length.to_le_bytes(), &text(value)].concat()
 }
 

@@ -1,5 +1,6 @@
 //! Hand-outs and block requests: every withheld set of small files, the greatest losses, stores that fit no list, lent
 //! memory, and the order of the checks.
+use super::headers::at;
 use super::script::*;
 use super::sessions::{show, Stage};
 use crate::probe::*;
@@ -8,8 +9,6 @@ use crate::writer::Plan;
 const HELD: u8 = 1;
 /// How many numbers of scratch are right.
 const NUMBERS: usize = 1024;
-/// Where a header's file has the content's hash.
-const CONTENT_HASH: usize = 293;
 
 fn most() -> usize {
     u32::MAX as usize
@@ -300,7 +299,7 @@ pub fn wrong_content(script: &mut Script) {
     for place in [0, 15, 31] {
         script.say(&format!("another byte {place} of the hash in the header"));
         script.load(&plan.file_around(&[]));
-        script.edit(&[Byte(CONTENT_HASH + place, 0)]);
+        script.edit(&[Byte(at::HASH + place, 0)]);
         script.seal();
         script.read();
         lend(script, &marks, &store);

@@ -9,6 +9,7 @@ pub mod at {
     pub const H: usize = 8;
     pub const SIZE: usize = 28;
     pub const NAME: usize = 38;
+    pub const HASH: usize = 293;
     pub const N: usize = 325;
     pub const M: usize = 329;
     pub const S: usize = 333;
@@ -236,9 +237,7 @@ pub fn header_order(script: &mut Script) {
     script.load(&file);
     pairs(&breaches(file.len()), |title, before, after| {
         script.say(title);
-        script.edit(before);
-        script.seal();
-        script.edit(after);
+        script.break_header(before, after);
         script.read();
         script.restore();
     });

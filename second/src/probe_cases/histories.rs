@@ -26,7 +26,7 @@ fn joined(start: usize, parts: &[Vec<u8>]) -> Vec<(usize, usize)> {
 }
 
 /// The chunks of a file that has the same header but for the content's hash, so that each conflicts.
-fn others(plan: &Plan) -> Vec<Vec<u8>> {
+pub fn others(plan: &Plan) -> Vec<Vec<u8>> {
     let content = plan.content.iter().map(|byte| byte ^ 0x5A).collect();
     Plan { content, ..plan.clone() }.chunks()
 }

@@ -1,5 +1,6 @@
 //! Listings: document 01's example, every set of withheld chunks, damage that is stepped over and that ends the reading,
 //! refused headers, the program's limits, and lent memory.
+use super::headers::at;
 use super::script::*;
 use super::{chunks, headers, largest};
 use crate::listing::example;
@@ -10,8 +11,6 @@ use crate::writer::Plan;
 const OUTPUT: usize = 32_768;
 /// The small number of a frame that gives the file another length.
 const FILE: u8 = 7;
-/// Where a header's file has the content's hash.
-const CONTENT_HASH: usize = 293;
 
 fn list(script: &mut Script) {
     script.frame(LISTING, 0, OUTPUT, 0);
@@ -85,7 +84,7 @@ pub fn withheld_sets(script: &mut Script) {
         let edits: Vec<Edit> = withheld.iter().map(|&index| spoil(&plan, index)).collect();
         changed(script, &format!("withheld {withheld:?}"), &edits);
         if withheld.len() == 2 {
-            let hash = Byte(CONTENT_HASH + 31, 0x77);
+            let hash = Byte(at::HASH + 31, 0x77);
             sealed(script, "the same, with another content hash", &[&edits[..], &[hash]].concat());
         }
     }
@@ -184,9 +183,7 @@ pub fn refused_headers(script: &mut Script) {
         // with other numbers that breach of 15 is one of 14 too
         for breach in headers::breaches(file.len()).into_iter().filter(|breach| !above || breach.number != 15) {
             script.say(&format!("header with {}", breach.number));
-            script.edit(&[&shape[..], &breach.before].concat());
-            script.seal();
-            script.edit(&breach.after);
+            script.break_header(&[&shape[..], &breach.before].concat(), &breach.after);
             list(script);
             script.restore();
         }
@@ -225,7 +222,7 @@ pub fn full_store(script: &mut Script) {
     list(script);
     changed(script, "one of them rebuilt", &[spoil(&plan, 6)]);
     changed(script, "two of them missing", &[spoil(&plan, 0), spoil(&plan, 6)]);
-    sealed(script, "another content hash", &[spoil(&plan, 3), Byte(CONTENT_HASH, 0x77)]);
+    sealed(script, "another content hash", &[spoil(&plan, 3), Byte(at::HASH, 0x77)]);
 }
 
 /// N = 1,024, and every second block has come.

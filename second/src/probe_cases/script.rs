@@ -71,6 +71,13 @@ impl Script {
         self.frame(RESTORE, 0, 0, 0);
     }
 
+    /// Breaks a check of the header: changes before the seal, and after it.
+    pub fn break_header(&mut self, before: &[Edit], after: &[Edit]) {
+        self.edit(before);
+        self.seal();
+        self.edit(after);
+    }
+
     /// A header that is changed and sealed again.
     pub fn header(&mut self, title: &str, edits: &[Edit]) {
         self.say(title);

@@ -1,6 +1,7 @@
 //! Files that are written: inputs at the bounds of each number, list and text and past them, and what is written read back,
 //! offered and handed out.
 use super::chance::Chance;
+use super::extensions::field;
 use super::script::*;
 use crate::probe::*;
 use crate::writer::{encoded, Plan};
@@ -164,11 +165,6 @@ pub fn lists(script: &mut Script) {
     load(script, "a list that takes all of the content", &Plan { priorities: vec![0], ..plan(8, 4, 0) });
     changed(script, "three indices", &[Two(of::LIST_LENGTH, 3)]);
     changed(script, "more than there is", &[Two(of::LIST_LENGTH, 65_535)]);
-}
-
-/// A field with a length that need not be its value's.
-fn field(tag: u16, length: u32, value: usize) -> Vec<u8> {
-    [&tag.to_le_bytes()[..], &length.to_le_bytes(), &text(value)].concat()
 }
 
 pub fn fields(script: &mut Script) {
