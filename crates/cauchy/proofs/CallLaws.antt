@@ -7,7 +7,7 @@ use lib.ListN.{length}
 use lib.Dec.{ltb, eqb}
 use borrow.Author.Tests.{ltb-true, eqb-true, not-false}
 use Rattle.cauchy.specs.declared.Answer.{Answer}
-use Rattle.cauchy.proofs.ShapeLaws.{or-false}
+use Rattle.little.proofs.TestLaws.{or-false}
 use Rattle.cauchy.specs.Code.{recoveryBlock}
 use Rattle.cauchy.specs.Calls.{wrongShape, wrongLent, Recovered, recoverySpec, wrongParts, partsSpec}
 

@@ -1,9 +1,13 @@
 -- Sums of blocks: a turn of `mul_add`, and a turn of the encoder. Assumes nothing.
 use mathlib.Core.Path.{_≡_, refl, sym, _∙_, ap, ap₂}
+use mathlib.Core.Bool.{cond}
 use mathlib.Core.List.{List, _++_}
 use Prim.Native.Nat.{ℕ, zero, suc, _+_, _-_, _*_, _/_, _%_, _≤_, _<_, suc-le-suc}
 use native.Mathlib.Omega.{arith}
+use native.Mathlib.Decide.{decLt}
 use native.Mathlib.Numerals.{add-one}
+use borrow.Author.Tests.{lt-ltb, le-ltb}
+use lib.Dec.{ltb}
 use lib.ListN.{getD, length, take, drop}
 use lib.Bits.{bitXor, xor-comm}
 use Rattle.gf16.specs.Field.{mul, inv}
@@ -12,7 +16,7 @@ use Rattle.little.specs.Fields.{bytesOf}
 use Rattle.cauchy.proofs.WordBytes.{word-is, bytes-sum}
 use Rattle.cauchy.proofs.BlockLaws.{length-wordBytes, word-back, joined-ext, wordBytes-ext, word-block, length-block}
 use Rattle.cauchy.proofs.MixLaws.{mixed, mixed-word}
-use Rattle.cauchy.specs.Code.{fieldSum, share, wordAt, wordBytes, recoveryWord, recoveryBlock}
+use Rattle.cauchy.specs.Code.{fieldSum, share, wordAt, wordBytes, recoveryWord, recoveryBlock, codeBlock}
 use Rattle.cauchy.specs.Inner.{mulAdded}
 use Rattle.little.specs.Parts.{part, block}
 use Rattle.little.proofs.PartLaws.{part-append-left, part-append-right, part-whole, block-inside}
@@ -85,6 +89,14 @@ length-out f s out h e = ap length e ∙ length-wordBytes f 0 (s / 2) ∙ omega 
 pub length-recovery : (n m s : ℕ) (blocks : List ℕ) (k : ℕ) → s % 2 ≡ 0 → length (recoveryBlock n m s blocks k) ≡ s
 unfolding recoveryBlock
 length-recovery n m s blocks k even = length-out (λ w. recoveryWord n m s blocks k w) s _ even refl
+
+pub length-code : (n m s : ℕ) (blocks : List ℕ) (i : ℕ) → s % 2 ≡ 0 → length blocks ≡ n * s → length (codeBlock n m s blocks i) ≡ s
+unfolding codeBlock
+length-code n m s blocks i even l = go (decLt i n)
+  where
+    go : Dec (i < n) → length (cond (ltb i n) (block s blocks i) (recoveryBlock n m s blocks (i - n))) ≡ s
+    go (yes h) = rw (lt-ltb i n h) (length-block n s blocks i l h)
+    go (no h) = rw (le-ltb i n (omega arith)) (length-recovery n m s blocks (i - n) even)
 
 pub length-part : (n s j width : ℕ) (store : List ℕ) → length store ≡ n * s → j < n → width ≡ s → length (take width (drop (j * s) store)) ≡ s
 length-part n s j width store l h e = ap (λ (x : ℕ). length (take x (drop (j * s) store))) e ∙ length-block n s store j l h

@@ -15,7 +15,7 @@ use Rattle.cauchy.proofs.Known.{length-held, held-take, held-one}
 use Rattle.cauchy.proofs.Filled.{read-filled, length-filled, getD-filled}
 use Rattle.cauchy.proofs.SumLaws.{word-part}
 use Rattle.cauchy.proofs.EndLaws.{Enough, enough, fine}
-use Rattle.cauchy.proofs.ShapeLaws.{or-false}
+use Rattle.little.proofs.TestLaws.{or-false}
 use Rattle.cauchy.specs.declared.Answer.{Answer}
 use Rattle.cauchy.specs.Decode.{missing, missingData, held, holding, foundWords, rank, decode}
 use Rattle.cauchy.specs.Code.{joined, wordBytes, wordAt}

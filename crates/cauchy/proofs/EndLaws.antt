@@ -11,7 +11,8 @@ use lib.Dec.{ltb, eqb}
 use borrow.Author.Tests.{ltb-false, eqb-true, not-false, lt-ltb, le-ltb}
 use Rattle.cauchy.specs.declared.Answer.{Answer}
 use Rattle.cauchy.proofs.Known.{length-held, held-take, held-drop, count-split, length-missing, length-present, UsedRows, rows-used}
-use Rattle.cauchy.proofs.ShapeLaws.{or-false, Right, right}
+use Rattle.little.proofs.TestLaws.{or-false}
+use Rattle.cauchy.proofs.ShapeLaws.{Right, right}
 use Rattle.cauchy.proofs.WordCode.{ascending-distinct}
 use Rattle.cauchy.specs.Inner.{Apart, Distinct, Cross, Square, Room, Rows}
 use Rattle.cauchy.specs.Decode.{missing, count, held, holding, present, rowsUsed, sides, foundWords}

@@ -1,17 +1,19 @@
 -- Scratch with ranges of words filled in: a range read, a range put. Assumes nothing.
 use mathlib.Core.Path.{_≡_, refl, sym, _∙_, ap, ap₂}
 use mathlib.Core.Bool.{Bool, true, false, cond, _&&_}
-use mathlib.Core.List.{List, [], _++_}
+use mathlib.Core.List.{List, _++_}
 use Prim.Native.Nat.{ℕ, zero, suc, _+_, _-_, _*_, _/_, _%_, _≤_, _<_}
-use native.Mathlib.Nat.{mul-le-mul-right, div-add-mod'}
+use native.Mathlib.Nat.{div-add-mod'}
 use native.Mathlib.Omega.{arith}
 use native.Mathlib.Decide.{decLt, ℕ-discrete}
 use lib.Arith.{digits-div, digits-mod}
-use lib.ListN.{length, getD, take, drop, length-drop, length-append, List·getD-append}
-use lib.Seq.{getD-take, getD-drop, length-take-le, getD-append-add, ext-getD}
+use lib.ListN.{length, getD, take, drop}
+use lib.Seq.{ext-getD}
 use lib.Dec.{ltb, leb}
 use borrow.Author.Tests.{lt-ltb, le-ltb, le-leb, lt-leb}
 use Rattle.little.specs.Fields.{bytesOf}
+use Rattle.little.specs.Parts.{put}
+use Rattle.little.proofs.PartLaws.{lent, length-part, getD-part, length-put, put-before, put-inside, put-behind, block-inside}
 use Rattle.cauchy.specs.Code.{joined, wordBytes}
 use Rattle.cauchy.proofs.BlockLaws.{length-wordBytes}
 use Rattle.cauchy.specs.Calls.{byteOf, inRange, filled}
@@ -27,29 +29,6 @@ byte-from f c (suc n) (suc (suc r)) h =
     let b : suc c + r / 2 ≡ c + suc (suc r) / 2 = omega arith in
     byte-from f (suc c) n r (omega arith) ∙ ap₂ (λ (x y : ℕ). byteOf x (f y)) a b
 
--- a part put back, by index
-pub put-before : (at k : ℕ) (F ys : List ℕ) (q : ℕ) → at ≤ length F → q < at → getD (take at F ++ (ys ++ drop k (drop at F))) q 0 ≡ getD F q 0
-put-before at k F ys q h m = List·getD-append (take at F) (ys ++ drop k (drop at F)) 0 q (omega (arith, length-take-le at F h)) ∙ getD-take at F q 0 m
-
-pub put-in : (at k : ℕ) (F ys : List ℕ) (r : ℕ) → at ≤ length F → r < length ys → getD (take at F ++ (ys ++ drop k (drop at F))) (at + r) 0 ≡ getD ys r 0
-put-in at k F ys r h m =
-    ap (λ (x : ℕ). getD (take at F ++ (ys ++ drop k (drop at F))) (x + r) 0) (sym (length-take-le at F h))
-    ∙ getD-append-add (take at F) (ys ++ drop k (drop at F)) r 0
-    ∙ List·getD-append ys (drop k (drop at F)) 0 r m
-
-put-after : (at k : ℕ) (F ys : List ℕ) (r : ℕ) → at ≤ length F → length ys ≡ k → getD (take at F ++ (ys ++ drop k (drop at F))) (at + (k + r)) 0 ≡ getD F (at + (k + r)) 0
-put-after at k F ys r h l =
-    ap (λ (x : ℕ). getD (take at F ++ (ys ++ drop k (drop at F))) (x + (k + r)) 0) (sym (length-take-le at F h))
-    ∙ getD-append-add (take at F) (ys ++ drop k (drop at F)) (k + r) 0
-    ∙ ap (λ (x : ℕ). getD (ys ++ drop k (drop at F)) (x + r) 0) (sym l)
-    ∙ getD-append-add ys (drop k (drop at F)) r 0
-    ∙ getD-drop k (drop at F) r 0
-    ∙ getD-drop at F (k + r) 0
-
-length-put : (at k : ℕ) (F ys : List ℕ) → at + k ≤ length F → length ys ≡ k → length (take at F ++ (ys ++ drop k (drop at F))) ≡ length F
-length-put at k F ys h l =
-    length-append (take at F) (ys ++ drop k (drop at F)) ∙ omega (arith, length-append ys (drop k (drop at F)), length-take-le at F (omega arith), length-drop k (drop at F), length-drop at F)
-
 and-off : (a b : Bool) → b ≡ false → (a && b) ≡ false
 and-off true b e = e
 and-off false b e = refl
@@ -61,7 +40,7 @@ out-same s first count e e′ g g′ base q o =
     ap (λ (t : Bool). cond t (byteOf (q % s % 2) (g (q / s) (q % s / 2))) (getD base q 0)) (and-off (ltb (q / s) e) _ o)
     ∙ sym (ap (λ (t : Bool). cond t (byteOf (q % s % 2) (g′ (q / s) (q % s / 2))) (getD base q 0)) (and-off (ltb (q / s) e′) _ o))
 
-pub else-same : (s first count e e′ : ℕ) (g g′ : ℕ → ℕ → ℕ) (base : List ℕ) (q : ℕ) → ltb (q / s) e ≡ ltb (q / s) e′ → (q / s < e′ → g (q / s) (q % s / 2) ≡ g′ (q / s) (q % s / 2))
+else-same : (s first count e e′ : ℕ) (g g′ : ℕ → ℕ → ℕ) (base : List ℕ) (q : ℕ) → ltb (q / s) e ≡ ltb (q / s) e′ → (q / s < e′ → g (q / s) (q % s / 2) ≡ g′ (q / s) (q % s / 2))
     → cond (inRange s first count e q) (byteOf (q % s % 2) (g (q / s) (q % s / 2))) (getD base q 0) ≡ cond (inRange s first count e′ q) (byteOf (q % s % 2) (g′ (q / s) (q % s / 2))) (getD base q 0)
 unfolding inRange
 else-same s first count e e′ g g′ base q he hg = go (decLt (q / s) e′)
@@ -99,14 +78,12 @@ module _ (s first count : ℕ) (room : first + count ≤ s / 2) where
   pub read-filled : (e : ℕ) (g : ℕ → ℕ → ℕ) (base : List ℕ) (t width : ℕ) → t < e → e * s ≤ length base → width ≡ 2 * count
       → take width (drop (t * s + 2 * first) (filled s first count e g base)) ≡ wordBytes (λ v. g t (first + v)) 0 count
   read-filled e g base t width ht l ew =
-      let inside : t * s + s ≤ e * s = omega (arith, mul-le-mul-right {m = t + 1} {n = e} s (omega arith)) in
+      let inside : t * s + s ≤ e * s = block-inside s e t ht in
       let lf : length (filled s first count e g base) ≡ length base = length-filled e g base in
-      let lp : length (take width (drop (t * s + 2 * first) (filled s first count e g base))) ≡ width =
-      length-take-le width (drop (t * s + 2 * first) (filled s first count e g base)) (omega (arith, length-drop (t * s + 2 * first) (filled s first count e g base))) in
+      let lp : length (take width (drop (t * s + 2 * first) (filled s first count e g base))) ≡ width = length-part (filled s first count e g base) (t * s + 2 * first) width (omega arith) in
       ext-getD 0 (take width (drop (t * s + 2 * first) (filled s first count e g base))) (wordBytes (λ v. g t (first + v)) 0 count) (lp ∙ ew ∙ sym (length-wordBytes (λ v. g t (first + v)) 0 count))
       (λ r m. let m′ : r < 2 * count = omega arith in
-      getD-take width (drop (t * s + 2 * first) (filled s first count e g base)) r 0 (omega arith)
-      ∙ getD-drop (t * s + 2 * first) (filled s first count e g base) r 0
+      getD-part (filled s first count e g base) (t * s + 2 * first) width r (omega arith)
       ∙ getD-filled e g base (t * s + 2 * first + r) (omega arith)
       ∙ byte-in e g base t r ht m′
       ∙ sym (byte-from (λ v. g t (first + v)) 0 count r m′ ∙ ap (λ (x : ℕ). byteOf (r % 2) (g t (first + x))) (omega arith)))
@@ -138,32 +115,51 @@ module _ (s first count : ℕ) (room : first + count ≤ s / 2) where
       → ((l : ℕ) → (l ≡ t → ⊥) → ltb l e ≡ ltb l e′) → ((l w : ℕ) → (l ≡ t → ⊥) → l < e′ → g l w ≡ g′ l w) → F ≡ filled s first count e g base → ys ≡ wordBytes (λ v. g′ t (first + v)) 0 count
       → take (t * s + 2 * first) F ++ (ys ++ drop width (drop (t * s + 2 * first) F)) ≡ filled s first count e′ g′ base
   put-filled e e′ g g′ base F ys t width hs ht l ew he hg eF ey =
-      let inside : t * s + s ≤ e′ * s = omega (arith, mul-le-mul-right {m = t + 1} {n = e′} s (omega arith)) in
+      let inside : t * s + s ≤ e′ * s = block-inside s e′ t ht in
       let lF : length F ≡ length base = ap length eF ∙ length-filled e g base in
       let ly : length ys ≡ width = ap length ey ∙ length-wordBytes (λ v. g′ t (first + v)) 0 count ∙ sym ew in
-      let lP : length (take (t * s + 2 * first) F ++ (ys ++ drop width (drop (t * s + 2 * first) F))) ≡ length F = length-put (t * s + 2 * first) width F ys (omega arith) ly in
-      ext-getD 0 (take (t * s + 2 * first) F ++ (ys ++ drop width (drop (t * s + 2 * first) F))) (filled s first count e′ g′ base) (lP ∙ lF ∙ sym (length-filled e′ g′ base))
-      (λ q m. let m′ : q < length base = omega arith in go q m′ (omega arith) (omega arith) ly (decLt q (t * s + 2 * first)) (decLt q (t * s + 2 * first + 2 * count)) ∙ sym (getD-filled e′ g′ base q m′))
+      let fit : t * s + 2 * first + length ys ≤ length F = omega arith in
+      lent F ys (t * s + 2 * first) width ly
+      ∙ ext-getD 0 (put F (t * s + 2 * first) ys) (filled s first count e′ g′ base) (length-put F (t * s + 2 * first) ys fit ∙ lF ∙ sym (length-filled e′ g′ base))
+      (λ q m. let m′ : q < length base = omega (arith, length-put F (t * s + 2 * first) ys fit) in
+      go q m′ fit ly (decLt q (t * s + 2 * first)) (decLt q (t * s + 2 * first + 2 * count)) ∙ sym (getD-filled e′ g′ base q m′))
     where
       at-F : (q : ℕ) → q < length base → getD F q 0 ≡ byteAt e g base q
       at-F q m = ap (λ (x : List ℕ). getD x q 0) eF ∙ getD-filled e g base q m
 
-      go : (q : ℕ) → q < length base → t * s + 2 * first ≤ length F → length F ≡ length base → length ys ≡ width → Dec (q < t * s + 2 * first) → Dec (q < t * s + 2 * first + 2 * count)
-          → getD (take (t * s + 2 * first) F ++ (ys ++ drop width (drop (t * s + 2 * first) F))) q 0 ≡ byteAt e′ g′ base q
-      go q m h lF ly (yes a) d = put-before (t * s + 2 * first) width F ys q h a ∙ at-F q m ∙ byte-out e e′ g g′ base t q hs he hg (λ x y. omega arith)
-      go q m h lF ly (no a) (yes d) =
+      go : (q : ℕ) → q < length base → t * s + 2 * first + length ys ≤ length F → length ys ≡ width → Dec (q < t * s + 2 * first) → Dec (q < t * s + 2 * first + 2 * count)
+          → getD (put F (t * s + 2 * first) ys) q 0 ≡ byteAt e′ g′ base q
+      go q m h ly (yes a) d = put-before F (t * s + 2 * first) ys h q a ∙ at-F q m ∙ byte-out e e′ g g′ base t q hs he hg (λ x y. omega arith)
+      go q m h ly (no a) (yes d) =
           let r : q ≡ t * s + 2 * first + (q - (t * s + 2 * first)) = omega arith in
           let k : q - (t * s + 2 * first) < 2 * count = omega arith in
-          ap (λ (x : ℕ). getD (take (t * s + 2 * first) F ++ (ys ++ drop width (drop (t * s + 2 * first) F))) x 0) r
-          ∙ put-in (t * s + 2 * first) width F ys (q - (t * s + 2 * first)) h (omega arith)
+          ap (λ (x : ℕ). getD (put F (t * s + 2 * first) ys) x 0) r
+          ∙ put-inside F (t * s + 2 * first) ys h (q - (t * s + 2 * first)) (omega arith)
           ∙ ap (λ (x : List ℕ). getD x (q - (t * s + 2 * first)) 0) ey
           ∙ byte-from (λ v. g′ t (first + v)) 0 count (q - (t * s + 2 * first)) k
           ∙ ap (λ (x : ℕ). byteOf ((q - (t * s + 2 * first)) % 2) (g′ t (first + x))) (omega arith)
           ∙ sym (ap (byteAt e′ g′ base) r ∙ byte-in e′ g′ base t (q - (t * s + 2 * first)) ht k)
-      go q m h lF ly (no a) (no d) =
-          let r : q ≡ t * s + 2 * first + (width + (q - (t * s + 2 * first) - width)) = omega arith in
-          ap (λ (x : ℕ). getD (take (t * s + 2 * first) F ++ (ys ++ drop width (drop (t * s + 2 * first) F))) x 0) r
-          ∙ put-after (t * s + 2 * first) width F ys (q - (t * s + 2 * first) - width) h ly
-          ∙ ap (λ (x : ℕ). getD F x 0) (sym r)
-          ∙ at-F q m
-          ∙ byte-out e e′ g g′ base t q hs he hg (λ x y. omega arith)
+      go q m h ly (no a) (no d) =
+          put-behind F (t * s + 2 * first) ys h q (omega arith) ∙ at-F q m ∙ byte-out e e′ g g′ base t q hs he hg (λ x y. omega arith)
+
+-- ---- scratch depends on the words asked for alone
+
+range-same : (s first count e : ℕ) (g h : ℕ → ℕ → ℕ) (base : List ℕ) (q : ℕ) → (q / s < e → 2 * first ≤ q % s → q % s < 2 * (first + count) → g (q / s) (q % s / 2) ≡ h (q / s) (q % s / 2))
+    → cond (inRange s first count e q) (byteOf (q % s % 2) (g (q / s) (q % s / 2))) (getD base q 0) ≡ cond (inRange s first count e q) (byteOf (q % s % 2) (h (q / s) (q % s / 2))) (getD base q 0)
+unfolding inRange
+range-same s first count e g h base q f = go (decLt (q / s) e) (decLt (q % s) (2 * first)) (decLt (q % s) (2 * (first + count)))
+  where
+    go : Dec (q / s < e) → Dec (q % s < 2 * first) → Dec (q % s < 2 * (first + count))
+        → cond (ltb (q / s) e && (leb (2 * first) (q % s) && ltb (q % s) (2 * (first + count)))) (byteOf (q % s % 2) (g (q / s) (q % s / 2))) (getD base q 0)
+        ≡ cond (ltb (q / s) e && (leb (2 * first) (q % s) && ltb (q % s) (2 * (first + count)))) (byteOf (q % s % 2) (h (q / s) (q % s / 2))) (getD base q 0)
+    go (yes a) (no b) (yes d) = rw (f a (omega arith) d)
+    go (yes a) (yes b) d = rw (lt-ltb (q / s) e a, lt-leb (2 * first) (q % s) b)
+    go (yes a) (no b) (no d) = rw (lt-ltb (q / s) e a, le-leb (2 * first) (q % s) (omega arith), le-ltb (q % s) (2 * (first + count)) (omega arith))
+    go (no a) b d = rw (le-ltb (q / s) e (omega arith))
+
+pub filled-ext : (s first count e : ℕ) (g h : ℕ → ℕ → ℕ) (base : List ℕ) → first + count ≤ s / 2 → ((l w : ℕ) → l < e → first ≤ w → w < first + count → g l w ≡ h l w)
+    → filled s first count e g base ≡ filled s first count e h base
+filled-ext s first count e g h base k f =
+    ext-getD 0 (filled s first count e g base) (filled s first count e h base) (length-filled s first count k e g base ∙ sym (length-filled s first count k e h base))
+    (λ q m. let m′ : q < length base = omega (arith, length-filled s first count k e g base) in
+    getD-filled s first count k e g base q m′ ∙ range-same s first count e g h base q (λ a b d. f (q / s) (q % s / 2) a (omega arith) (omega arith)) ∙ sym (getD-filled s first count k e h base q m′))

@@ -1,7 +1,6 @@
 -- What is held determines the data, or leaves them free: the theorems over words, taken to blocks of bytes. Assumes nothing.
 use mathlib.Core.Path.{_≡_, refl, sym, _∙_, ap, ap₂}
 use mathlib.Core.Bool.{Bool, true, false, cond}
-use mathlib.Core.Logic.{inl, inr}
 use mathlib.Core.List.{List, [], _∷_, map}
 use Prim.Native.Nat.{ℕ, zero, suc, _+_, _-_, _*_, _/_, _≤_, _<_}
 use native.Mathlib.Decide.{decLt, ℕ-discrete}
@@ -14,7 +13,7 @@ use borrow.Author.Tests.{lt-ltb, le-ltb, eq-eqb, ne-eqb}
 use Rattle.gf16.specs.Field.{mul, inv}
 use Rattle.gf16.proofs.Laws.{laws}
 use Rattle.cauchy.proofs.GfLaws.{gf-laws, gf}
-use Rattle.cauchy.proofs.BlockLaws.{length-wordBytes, below-wordBytes, words-same, length-block, word-block, below-block, block-of-words, word-code}
+use Rattle.cauchy.proofs.BlockLaws.{below-wordBytes, words-same, length-block, word-block, below-block, block-of-words, word-code}
 use Rattle.cauchy.proofs.WordCode.{rowFrom, codeWord, code-data, code-row, Ascending}
 use Rattle.cauchy.specs.Decode.{count, missing, held, holding, present, rowsUsed, heldSum, side, sides, foundWords, rank, decode}
 use Rattle.cauchy.specs.Inner.{Below}
@@ -23,8 +22,10 @@ use Rattle.cauchy.specs.Code.{fieldSum, share, wordAt, wordBytes, recove
 use Rattle.cauchy.proofs.Store.{column, columnFrom, length-column, getD-column, below-column, FitsStore, known-store-fits, some-store}
 use Rattle.cauchy.specs.Theorems.{Shape, Known, One, Some, Free}
 use Rattle.cauchy.proofs.WordCode
-use Rattle.little.specs.Parts.{put, block, putBlock}
+use Rattle.little.specs.Parts.{block, putBlock}
 use Rattle.little.proofs.PartLaws
+use Rattle.little.proofs.FieldLaws.{bytes-put}
+use Rattle.cauchy.proofs.CodeLaws.{length-code}
 use Rattle.cauchy.proofs.WordBytes.{byte-any}
 
 -- ---- marks
@@ -282,16 +283,6 @@ pub fits-words : (n m s W : ℕ) (marks store blocks : List ℕ) → s ≡ 2 * W
 fits-words n m s W marks store blocks e h b f w hw i hi hm =
     sym (word-code n m s W blocks i w e h (λ q _. b q) hw hi) ∙ ap (λ (l : List ℕ). wordAt l (2 * w)) (f i hi (one-held marks i hm)) ∙ word-block s W store i w e hw
 
-length-code : (n m s W : ℕ) (blocks : List ℕ) (i : ℕ) → s ≡ 2 * W → Blocks n s blocks → length (codeBlock n m s blocks i) ≡ 2 * W
-unfolding codeBlock recoveryBlock
-length-code n m s W blocks i e b = go (decLt i n)
-  where
-    go : Dec (i < n) → length (cond (ltb i n) (block s blocks i) (recoveryBlock n m s blocks (i - n))) ≡ 2 * W
-    go (yes q) = ap (λ (t : Bool). length (cond t (block s blocks i) (recoveryBlock n m s blocks (i - n)))) (lt-ltb i n q) ∙ length-block n s blocks i (b .0) q ∙ e
-    go (no q) =
-        ap (λ (t : Bool). length (cond t (block s blocks i) (recoveryBlock n m s blocks (i - n)))) (le-ltb i n (omega arith))
-        ∙ length-wordBytes (λ w. recoveryWord n m s blocks (i - n) w) 0 (s / 2) ∙ omega arith
-
 below-code : (n m s : ℕ) (blocks : List ℕ) (i : ℕ) → m + n ≤ 65536 → Blocks n s blocks → i < n + m → Below 256 (codeBlock n m s blocks i)
 unfolding codeBlock recoveryBlock
 below-code n m s blocks i h b hi = go (decLt i n)
@@ -302,7 +293,7 @@ below-code n m s blocks i h b hi = go (decLt i n)
 
 pub words-fit : (n m s W : ℕ) (marks store blocks : List ℕ) → s ≡ 2 * W → m + n ≤ 65536 → Blocks (n + m) s store → Blocks n s blocks → FitsStore gf s W n m (held marks) store blocks → Fits n m s marks store blocks
 words-fit n m s W marks store blocks e h bt bs f i hi hm =
-    words-same W (codeBlock n m s blocks i) (block s store i) (length-code n m s W blocks i e bs) (length-block (n + m) s store i (bt .0) hi ∙ e)
+    words-same W (codeBlock n m s blocks i) (block s store i) (length-code n m s blocks i (omega arith) (bs .0) ∙ e) (length-block (n + m) s store i (bt .0) hi ∙ e)
     (below-code n m s blocks i h bs hi) (below-block (n + m) s store i bt hi)
     (λ w hw. word-code n m s W blocks i w e h (λ q _. bs .1 q) hw hi ∙ f w hw i hi (omega (arith, held-one marks i hm)) ∙ sym (word-block s W store i w e hw))
 
@@ -433,29 +424,18 @@ holding-more (a ∷ marks) (suc j) h o = more (eqb a 1) (held (set marks j 1)) (
     more true l r e = ap suc e
     more false l r e = e
 
-bytes-put : (xs : List ℕ) (at : ℕ) (ys : List ℕ) → at + length ys ≤ length xs → Bytes xs → Bytes ys → Bytes (put xs at ys)
-bytes-put xs at ys h bx by q = go (decLt q at) (decLt q (at + length ys))
-  where
-    go : Dec (q < at) → Dec (q < at + length ys) → getD (put xs at ys) q 0 < 256
-    go (yes a) d = rw (PartLaws.put-outside xs at ys h q (inl a)) (bx q)
-    go (no a) (yes d) = let e : q ≡ at + (q - at) = omega arith in rw e (rw (PartLaws.put-inside xs at ys h (q - at) (omega arith)) (by (q - at)))
-    go (no a) (no d) = rw (PartLaws.put-outside xs at ys h q (inr (omega arith))) (bx q)
-
 pub free : Free
 free n m s marks store g h j hj o bytes bb = (r .0, r .1, old, sym (code-is n m s (r .0) j hj) ∙ r .2 j (omega arith) here ∙ PartLaws.block-put s (n + m) store (g .store-blocks .0) j (omega arith) bytes lb)
   where
     lb : length bytes ≡ s
     lb = bb .0 ∙ omega arith
 
-    inside : j * s + length bytes ≤ length store
-    inside = omega (arith, g .store-blocks .0, PartLaws.block-inside s (n + m) j (omega arith), lb)
-
     wanted : Shape n m s (set marks j 1) (putBlock s store j bytes)
     wanted = record {
       even = g .even;
       small = g .small;
       marks-size = length-set marks j 1 ∙ g .marks-size;
-      store-blocks = (PartLaws.length-putBlock s (n + m) store (g .store-blocks .0) j (omega arith) bytes lb, bytes-put store (j * s) bytes inside (g .store-blocks .1) (bb .1));
+      store-blocks = (PartLaws.length-putBlock s (n + m) store (g .store-blocks .0) j (omega arith) bytes lb, bytes-put store (j * s) bytes (g .store-blocks .1) (bb .1));
     }
 
     r : (blocks : List ℕ) × Blocks n s blocks × Fits n m s (set marks j 1) (putBlock s store j bytes) blocks

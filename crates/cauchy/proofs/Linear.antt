@@ -1,14 +1,15 @@
 -- The solution of the system is linear in the right sides; so the solutions for unit right sides give every other. Assumes nothing.
 use mathlib.Core.Path.{_≡_, refl, sym, _∙_, ap, ap₂}
 use mathlib.Core.List.{List, [], _∷_}
-use Prim.Native.Nat.{ℕ, zero, suc, _-_, _≤_, _<_, suc-le-suc}
+use Prim.Native.Nat.{ℕ, zero, suc, _≤_, _<_, suc-le-suc}
 use native.Mathlib.Omega.{arith}
 use native.Mathlib.Decide.{decLt, ℕ-discrete}
 use lib.ListN.{length, getD, replicate, length-replicate, getD-replicate, length-set}
 use lib.Seq.{ext-getD, getD-set-same, getD-set-other}
 use lib.Bits.{bitXor, xor-zero-r, xor-zero-l}
 use Rattle.gf16.specs.Field.{mul, inv}
-use Rattle.gf16.proofs.Laws.{laws, Field·simp}
+use Rattle.gf16.proofs.Ring.{shuffle}
+use Rattle.gf16.proofs.Laws.{laws}
 use Rattle.cauchy.proofs.GfLaws.{gf-laws, gf}
 use Rattle.cauchy.proofs.WordCode.{solve-correct, solve-unique, solve-below}
 use Rattle.cauchy.specs.Inner.{Below, Square, unit}
@@ -39,9 +40,6 @@ below-plus a b l ha hb i m =
     let m′ : i < length a = omega (arith, length-plus field a b l) in
     rw (getD-plus field a b i 0 m′ l) (laws .add-closed (getD a i 0) (getD b i 0) (ha i m′) (hb i (omega arith)))
 
-four : (a b c d : ℕ) → bitXor (bitXor a b) (bitXor c d) ≡ bitXor (bitXor a c) (bitXor b d)
-four a b c d = simp Field·simp
-
 dot-plus : (x : ℕ) (ys a b : List ℕ) → length a ≡ length ys → length b ≡ length ys → dot field x ys (plus field a b) ≡ bitXor (dot field x ys a) (dot field x ys b)
 unfolding dot plus
 dot-plus x [] a b la lb = refl
@@ -49,7 +47,7 @@ dot-plus x (y ∷ ys) [] b la lb = absurd (omega arith)
 dot-plus x (y ∷ ys) (u ∷ a) [] la lb = absurd (omega arith)
 dot-plus x (y ∷ ys) (u ∷ a) (v ∷ b) la lb =
     ap₂ bitXor (laws .add-mul u v (inv (bitXor x y))) (dot-plus x ys a b (omega arith) (omega arith))
-    ∙ four (mul u (inv (bitXor x y))) (mul v (inv (bitXor x y))) (dot field x ys a) (dot field x ys b)
+    ∙ shuffle (mul u (inv (bitXor x y))) (mul v (inv (bitXor x y))) (dot field x ys a) (dot field x ys b)
 
 tail : (d : ℕ) (l : List ℕ) → Below 65536 (d ∷ l) → Below 65536 l
 tail d l h i m = h (suc i) (suc-le-suc m)

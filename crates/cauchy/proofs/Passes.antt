@@ -7,11 +7,11 @@ use native.Mathlib.Numerals.{add-one}
 use lib.ListN.{length, getD, take, drop, set, length-set, length-drop, drop-of-length-le}
 use lib.Seq.{drop-set-lt, getD-set-same, getD-set-other, take-suc, drop-cons, take-all, append-snoc, ext-getD, getD-take, getD-drop, length-take-le}
 use native.Mathlib.Decide.{ℕ-discrete}
-use Rattle.cauchy.specs.System.{Ops, field, dot, zeros, reduce, back, first, extend, solve}
+use Rattle.cauchy.specs.System.{Ops, field, dot, zeros, reduce, back, first, extend}
 use lib.Bits.{bitXor}
 use Rattle.gf16.specs.Field.{mul, inv}
 use Rattle.cauchy.specs.Inner.{Below, forward, backward, Round, Turn, Ready, reduceOne, scaleOne, termOne}
-use Rattle.cauchy.proofs.SystemLaws.{solve-passes, getD-reduce, getD-back, length-reduce, length-back}
+use Rattle.cauchy.proofs.SystemLaws.{getD-reduce, getD-back, length-reduce, length-back}
 
 module _ (R : Ops) where
   open Ops R using (F, _⊕_, _⊗_, inv, O, I)
@@ -118,10 +118,6 @@ module _ (R : Ops) where
 
     pub backward-end : (ps a : List F) → Backward xs ys ps 0 a → a ≡ backward R xs ys ps
     backward-end ps a b = b .done
-
-    -- the two passes solve the system
-    pub passes : (ss a a′ : List F) → Forward xs ys ss (length xs) a → Backward xs ys a 0 a′ → a′ ≡ solve R xs ys ss
-    passes ss a a′ f b = backward-end a a′ b ∙ ap (backward R xs ys) (forward-end ss a f) ∙ sym (solve-passes R xs ys ss)
 
 pub set-below : (b : ℕ) (l : List ℕ) (k v : ℕ) → Below b l → v < b → Below b (set l k v)
 set-below b l k v w h i m = go (ℕ-discrete i k)

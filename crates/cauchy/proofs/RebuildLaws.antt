@@ -6,15 +6,17 @@ use Prim.Native.Nat.{ℕ, zero, suc, _+_, _-_, _*_, _/_, _%_, _≤_, _<_}
 use native.Mathlib.Nat.{mul-le-mul, mul-le-mul-right}
 use native.Mathlib.Omega.{arith}
 use native.Mathlib.Decide.{decLt, ℕ-discrete}
-use lib.ListN.{length, getD, take, drop, length-drop}
-use lib.Seq.{ext-getD, length-take-le}
+use lib.ListN.{length, getD, take, drop}
+use lib.Seq.{ext-getD}
 use lib.Dec.{ltb}
 use lib.Bits.{bitXor}
 use borrow.Author.Tests.{lt-ltb, le-ltb}
 use Rattle.gf16.specs.Field.{mul, inv}
+use Rattle.little.specs.Parts.{put}
+use Rattle.little.proofs.PartLaws.{lent, length-part, put-before, put-inside}
 use Rattle.cauchy.proofs.CodeLaws.{mulAdded-of}
 use Rattle.cauchy.proofs.Linear.{tailFrom, tailFrom-all, tail-step, tail-start, length-unit, below-unit}
-use Rattle.cauchy.proofs.Filled.{put-before, put-in, put-filled, read-filled, length-filled, getD-filled, else-same}
+use Rattle.cauchy.proofs.Filled.{put-filled, read-filled, length-filled, getD-filled, filled-ext}
 use Rattle.cauchy.specs.Inner.{Below, Ready, mulAdded, unit, entriesOf, Square, Inverse, Room, Rows, stepped, Weighs, AddsAll}
 use Rattle.cauchy.specs.System.{solve, field}
 use Rattle.cauchy.proofs.SystemLaws.{length-solve}
@@ -53,23 +55,21 @@ pub rowed-start : (xs ys numbers : List ℕ) → Rowed xs ys numbers 0
 unfolding Rowed
 rowed-start xs ys numbers k l h = absurd (omega arith)
 
-pub rowed-turn : (xs ys numbers row : List ℕ) (i width : ℕ) → Square xs ys → length xs ≤ 32 → i < length xs → length numbers ≡ 1024 → Rowed xs ys numbers i
+pub rowed-turn : (xs ys numbers row : List ℕ) (i width : ℕ) → Square xs ys → length xs ≤ 32 → i < length xs → length numbers ≡ 1024 → width ≡ length xs → Rowed xs ys numbers i
     → row ≡ solve field xs ys (unit (length xs) i) → Rowed xs ys (take (i * length xs) numbers ++ (row ++ drop width (drop (i * length xs) numbers))) (i + 1)
 unfolding Rowed
-rowed-turn xs ys numbers row i width q h32 hi ln R er k l hk hl = go (ℕ-discrete k i)
+rowed-turn xs ys numbers row i width q h32 hi ln ew R er k l hk hl =
+    ap (λ (x : List ℕ). getD x (k * length xs + l) 0) (lent numbers row (i * length xs) width (lr ∙ sym ew)) ∙ go (ℕ-discrete k i)
   where
-    e : ℕ
-    e = length xs
-
-    room : i * length xs + length xs ≤ 1024
-    room = square-inside (length xs) i h32 hi
-
     lr : length row ≡ length xs
     lr = ap length er ∙ length-solve field xs ys (unit (length xs) i) ∙ q .size
 
-    go : Dec (k ≡ i) → getD (take (i * length xs) numbers ++ (row ++ drop width (drop (i * length xs) numbers))) (k * length xs + l) 0 ≡ getD (solve field xs ys (unit (length xs) k)) l 0
-    go (yes z) = rw z (put-in (i * length xs) width numbers row l (omega (arith, room)) (omega (arith, lr)) ∙ ap (λ (x : List ℕ). getD x l 0) er)
-    go (no n) = put-before (i * length xs) width numbers row (k * length xs + l) (omega (arith, room)) (omega (arith, mul-le-mul-right {m = k + 1} {n = i} (length xs) (omega arith))) ∙ R k l (omega arith) hl
+    room : i * length xs + length row ≤ length numbers
+    room = omega (arith, square-inside (length xs) i h32 hi, lr)
+
+    go : Dec (k ≡ i) → getD (put numbers (i * length xs) row) (k * length xs + l) 0 ≡ getD (solve field xs ys (unit (length xs) k)) l 0
+    go (yes z) = rw z (put-inside numbers (i * length xs) row room l (omega (arith, lr)) ∙ ap (λ (x : List ℕ). getD x l 0) er)
+    go (no n) = put-before numbers (i * length xs) row room (k * length xs + l) (omega (arith, mul-le-mul-right {m = k + 1} {n = i} (length xs) (omega arith))) ∙ R k l (omega arith) hl
 
 pub rowed-end : (xs ys numbers : List ℕ) (i : ℕ) → Square xs ys → length xs ≤ i → Rowed xs ys numbers i → Inverse xs ys numbers
 unfolding Rowed
@@ -102,7 +102,7 @@ pub cleared-turn : (s first count e t width : ℕ) (base F ys : List ℕ) → Ro
 cleared-turn s first count e t width base F ys r ht ew eF ey =
     let k : (t + 1) * s ≤ e * s = mul-le-mul-right {m = t + 1} {n = e} s (omega arith) in
     let lF : length F ≡ length base = ap length eF ∙ length-filled s first count (r .words) t (λ l w. 0) base in
-    let lp : length (take width (drop (t * s + 2 * first) F)) ≡ width = length-take-le width (drop (t * s + 2 * first) F) (omega (arith, length-drop (t * s + 2 * first) F, r .inside, r .words)) in
+    let lp : length (take width (drop (t * s + 2 * first) F)) ≡ width = length-part F (t * s + 2 * first) width (omega (arith, r .inside, r .words)) in
     let n : length (take width (drop (t * s + 2 * first) F)) / 2 ≡ count = omega arith in
     put-filled s first count (r .words) t (t + 1) (λ l w. 0) (λ l w. 0) base F ys t width (omega (arith, r .least)) (omega arith) (omega (arith, r .inside)) ew (λ l n. ltb-other l t n) (λ l w n h. refl) eF (ey ∙ ap (wordBytes (λ _. 0) 0) n)
 
@@ -116,15 +116,9 @@ Adding s first count v numbers part old new t =
     (xs ys : List ℕ) (g : ℕ → ℕ → ℕ) (base : List ℕ) → Inverse xs ys numbers → length v ≡ length xs → Below 65536 v → old ≡ filled s first count (length v) g base
     → new ≡ filled s first count (length v) (mixing xs ys v part first g t) base
 
-filled-same : (s first count e : ℕ) (g h : ℕ → ℕ → ℕ) (base : List ℕ) → first + count ≤ s / 2 → ((l w : ℕ) → l < e → g l w ≡ h l w) → filled s first count e g base ≡ filled s first count e h base
-filled-same s first count e g h base k f =
-    ext-getD 0 (filled s first count e g base) (filled s first count e h base) (length-filled s first count k e g base ∙ sym (length-filled s first count k e h base))
-    (λ q m. let m′ : q < length base = omega (arith, length-filled s first count k e g base) in
-    getD-filled s first count k e g base q m′ ∙ else-same s first count e e g h base q refl (λ z. f (q / s) (q % s / 2) z) ∙ sym (getD-filled s first count k e h base q m′))
-
 pub adding-start : (s first count : ℕ) (v numbers part old : List ℕ) → first + count ≤ s / 2 → Adding s first count v numbers part old old 0
 unfolding Adding
-adding-start s first count v numbers part old h xs ys g base I lv b e = e ∙ filled-same s first count (length v) g (mixing xs ys v part first g 0) base h (λ l w _. sym (ap (λ (x : Bool). cond x (stepped xs ys v part first g l w) (g l w)) (le-ltb l 0 (omega arith))))
+adding-start s first count v numbers part old h xs ys g base I lv b e = e ∙ filled-ext s first count (length v) g (mixing xs ys v part first g 0) base h (λ l w _ _ _. sym (ap (λ (x : Bool). cond x (stepped xs ys v part first g l w) (g l w)) (le-ltb l 0 (omega arith))))
 
 pub adding-turn : (s first count : ℕ) (v numbers part old F made : List ℕ) (t c width : ℕ) → Room s first count (length v) (length part) (length old) → t < length v → length F ≡ length old → width ≡ 2 * count
     → Weighs numbers v t c → Adding s first count v numbers part old F t → made ≡ mulAdded c (take width (drop (t * s + 2 * first) F)) part
@@ -145,7 +139,7 @@ pub adding-end : (s first count : ℕ) (v numbers part old F : List ℕ) (t : �
 unfolding Adding
 adding-end s first count v numbers part old F t k h A xs ys g base I lv b e =
     A xs ys g base I lv b e
-    ∙ filled-same s first count (length v) (mixing xs ys v part first g t) (stepped xs ys v part first g) base k (λ l w hl. ap (λ (x : Bool). cond x (stepped xs ys v part first g l w) (g l w)) (lt-ltb l t (omega arith)))
+    ∙ filled-ext s first count (length v) (mixing xs ys v part first g t) (stepped xs ys v part first g) base k (λ l w hl _ _. ap (λ (x : Bool). cond x (stepped xs ys v part first g l w) (g l w)) (lt-ltb l t (omega arith)))
 
 -- ---- the entries of a column
 
@@ -168,9 +162,6 @@ range-in s first count e p q t r h = omega (arith, mul-le-mul-right {m = t + 1} 
 pub range-small : (s first count e p q : ℕ) → Room s first count e p q → e * s ≤ 131072
 range-small s first count e p q r = mul-le-mul {n₁ = e} {m₁ = s} {n₂ = 32} {m₂ = 4096} (r .few) (r .most)
 
-pub length-range : (l : List ℕ) (at width : ℕ) → at + width ≤ length l → length (take width (drop at l)) ≡ width
-length-range l at width h = length-take-le width (drop at l) (omega (arith, length-drop at l))
-
 pub room-for : (s first count e p q e′ p′ q′ : ℕ) → Room s first count e p q → e′ ≡ e → p′ ≡ 2 * count → q′ ≡ q → Room s first count e′ p′ q′
 room-for s first count e p q e′ p′ q′ r a b d = record { least = r .least; most = r .most; even = r .even; words = r .words; few = omega (arith, r .few); inside = rw (a, d) (r .inside); whole = b }
 
@@ -186,4 +177,4 @@ part-in n m s first count e p q b xs store r w h = record {
 }
 
 pub part-long : (s first count b width : ℕ) (store : List ℕ) → width ≡ 2 * count → b * s + 2 * first + 2 * count ≤ length store → length (take width (drop (b * s + 2 * first) store)) ≡ 2 * count
-part-long s first count b width store e h = length-range store (b * s + 2 * first) width (omega arith) ∙ e
+part-long s first count b width store e h = length-part store (b * s + 2 * first) width (omega arith) ∙ e

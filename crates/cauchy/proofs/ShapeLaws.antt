@@ -1,16 +1,13 @@
 -- What a right shape tells. Assumes nothing.
-use mathlib.Core.Path.{_≡_, refl, ap}
-use mathlib.Core.Bool.{Bool, true, false, cond, not, _||_}
-use Prim.Native.Nat.{ℕ, _+_, _*_, _%_, _≤_, _<_}
-use native.Mathlib.Nat.{mul-le-mul, mul-le-mul-right}
+use mathlib.Core.Path.{_≡_}
+use mathlib.Core.Bool.{false, not}
+use Prim.Native.Nat.{ℕ, _*_, _%_, _≤_}
+use native.Mathlib.Nat.{mul-le-mul}
 use native.Mathlib.Omega.{arith}
 use borrow.Author.Tests.{ltb-false, eqb-false, eqb-true, not-false}
 use lib.Dec.{ltb, eqb}
+use Rattle.little.proofs.TestLaws.{or-false}
 use Rattle.cauchy.specs.Calls.{wrongShape}
-
-pub or-false : (a b : Bool) → (a || b) ≡ false → (a ≡ false) × (b ≡ false)
-or-false true b e = absurd (let z : _≡_ {A = ℕ} 1 0 = ap (λ (t : Bool). cond t 1 0) e in omega arith)
-or-false false b e = (refl, e)
 
 pub record Right (n m s : ℕ) : Type 0 where
   pub n-least : 1 ≤ n
@@ -38,9 +35,6 @@ right n m s e =
       even = eqb-true (s % 2) 0 (not-false (eqb (s % 2) 0) (a .1));
     }
 
--- block j of n lies in a store of n, which is small
-pub inside : (n s j : ℕ) → j < n → j * s + s ≤ n * s
-inside n s j h = omega (arith, mul-le-mul-right {m = j + 1} {n = n} s (omega arith))
-
+-- a store of few blocks is small
 pub few : (n s : ℕ) → n ≤ 1056 → s ≤ 4096 → n * s ≤ 4325376
 few n s h k = mul-le-mul {n₁ = n} {m₁ = s} {n₂ = 1056} {m₂ = 4096} h k

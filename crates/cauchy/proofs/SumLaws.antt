@@ -1,21 +1,17 @@
 -- The sums of rebuilding: recovery blocks, then held data blocks, come into the solution. Assumes nothing.
 use mathlib.Core.Path.{_≡_, refl, sym, _∙_, ap, ap₂}
-use mathlib.Core.Bool.{cond, _&&_}
 use mathlib.Core.List.{List, [], _∷_}
-use Prim.Native.Nat.{ℕ, zero, suc, _+_, _-_, _*_, _/_, _%_, _≤_, _<_, suc-le-suc}
+use Prim.Native.Nat.{ℕ, zero, suc, _+_, _-_, _*_, _/_, _≤_, _<_, suc-le-suc}
 use native.Mathlib.Omega.{arith}
-use native.Mathlib.Decide.{decLt}
 use lib.ListN.{length, getD, take, drop, drop-of-length-le, length-drop}
 use lib.Seq.{ext-getD, getD-take, getD-drop, drop-cons, length-take-le}
-use lib.Dec.{ltb, leb}
 use lib.Bits.{bitXor, xor-zero-l}
-use borrow.Author.Tests.{lt-ltb, le-ltb, le-leb, lt-leb}
 use Rattle.gf16.specs.Field.{mul, inv}
 use Rattle.gf16.proofs.Laws.{laws, Field·simp}
 use Rattle.cauchy.proofs.GfLaws.{gf-laws, gf}
 use Rattle.cauchy.proofs.Known.{heldRow, held-sum, length-held, held-one, held-none}
 use Rattle.cauchy.proofs.Linear.{tailFrom, tailFrom-all, tail-step, tail-start, length-unit, below-unit, solve-step}
-use Rattle.cauchy.proofs.Filled.{length-filled, getD-filled}
+use Rattle.cauchy.proofs.Filled.{filled-ext}
 use Rattle.cauchy.proofs.RebuildLaws.{getD-entries, length-entries}
 use Rattle.cauchy.proofs.WordCode.{solve-below}
 use Rattle.cauchy.specs.Inner.{Below, unit, entriesOf, Square, Inverse, stepped, recsOf, AddsAll, AddsRows, AddsData}
@@ -26,29 +22,7 @@ use Rattle.cauchy.proofs.Store.{column, length-column, getD-column, bel
 use Rattle.little.proofs.FieldLaws.{le-part}
 use Rattle.cauchy.proofs.WordBytes.{word-lt}
 use Rattle.cauchy.specs.Decode.{held, side, sides}
-use Rattle.cauchy.specs.Calls.{filled, inRange, byteOf}
-
--- ---- scratch depends on the words asked for alone
-
-range-same : (s first count e : ℕ) (g h : ℕ → ℕ → ℕ) (base : List ℕ) (q : ℕ) → (q / s < e → 2 * first ≤ q % s → q % s < 2 * (first + count) → g (q / s) (q % s / 2) ≡ h (q / s) (q % s / 2))
-    → cond (inRange s first count e q) (byteOf (q % s % 2) (g (q / s) (q % s / 2))) (getD base q 0) ≡ cond (inRange s first count e q) (byteOf (q % s % 2) (h (q / s) (q % s / 2))) (getD base q 0)
-unfolding inRange
-range-same s first count e g h base q f = go (decLt (q / s) e) (decLt (q % s) (2 * first)) (decLt (q % s) (2 * (first + count)))
-  where
-    go : Dec (q / s < e) → Dec (q % s < 2 * first) → Dec (q % s < 2 * (first + count))
-        → cond (ltb (q / s) e && (leb (2 * first) (q % s) && ltb (q % s) (2 * (first + count)))) (byteOf (q % s % 2) (g (q / s) (q % s / 2))) (getD base q 0)
-        ≡ cond (ltb (q / s) e && (leb (2 * first) (q % s) && ltb (q % s) (2 * (first + count)))) (byteOf (q % s % 2) (h (q / s) (q % s / 2))) (getD base q 0)
-    go (yes a) (no b) (yes d) = rw (f a (omega arith) d)
-    go (yes a) (yes b) d = rw (lt-ltb (q / s) e a, lt-leb (2 * first) (q % s) b)
-    go (yes a) (no b) (no d) = rw (lt-ltb (q / s) e a, le-leb (2 * first) (q % s) (omega arith), le-ltb (q % s) (2 * (first + count)) (omega arith))
-    go (no a) b d = rw (le-ltb (q / s) e (omega arith))
-
-pub filled-ext : (s first count e : ℕ) (g h : ℕ → ℕ → ℕ) (base : List ℕ) → first + count ≤ s / 2 → ((l w : ℕ) → l < e → first ≤ w → w < first + count → g l w ≡ h l w)
-    → filled s first count e g base ≡ filled s first count e h base
-filled-ext s first count e g h base k f =
-    ext-getD 0 (filled s first count e g base) (filled s first count e h base) (length-filled s first count k e g base ∙ sym (length-filled s first count k e h base))
-    (λ q m. let m′ : q < length base = omega (arith, length-filled s first count k e g base) in
-    getD-filled s first count k e g base q m′ ∙ range-same s first count e g h base q (λ a b d. f (q / s) (q % s / 2) a (omega arith) (omega arith)) ∙ sym (getD-filled s first count k e h base q m′))
+use Rattle.cauchy.specs.Calls.{filled}
 
 -- ---- a word of a part
 

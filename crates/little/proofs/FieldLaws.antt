@@ -1,21 +1,46 @@
--- The law of little-endian fields over the width, and a turn of the loops that read and write one. Assumes nothing.
+-- The law of little-endian fields over the width, a turn of the loops that read and write one, and what keeps bytes bytes.
+-- Assumes nothing.
 use Prim.Native.Nat.{ℕ, zero, suc, _+_, _*_, _/_, _%_, _^_, _-_, _<_, _≤_}
-use mathlib.Core.Path.{_≡_, refl, sym, ap, ap₂, _∙_, subst}
-use mathlib.Core.Bool.{Bool, true, false, cond}
+use mathlib.Core.Path.{_≡_, refl, sym, ap, ap₂, _∙_}
+use mathlib.Core.Bool.{true, false}
 use mathlib.Core.List.{List, [], _∷_, _++_, append-nil}
 use mathlib.Core.Logic.{_⊎_, inl, inr, ⊎-elim}
-use native.Mathlib.Nat.{le-trans, pow-le-pow-right, pow-suc, mod-one, one-le-pow, sub-self}
+use native.Mathlib.Nat.{le-trans, pow-le-pow-right, pow-suc, mod-one, one-le-pow}
 use native.Mathlib.Numerals.{add-one}
 use native.Mathlib.Omega.{arith}
 use borrow.Author.Tests.{le-leb, lt-leb}
 use lib.Arith.{mod-mul}
-use lib.Dec.{leb, lit<}
+use lib.Dec.{lit<}
 use lib.ListN.{length, getD, set, take, drop, List·getD-eq-default}
 use lib.Seq.{getD-drop, drop-cons, take-suc-set, append-snoc, take-all}
 use Rattle.little.specs.Parts.{part, put}
 use Rattle.little.specs.Fields.{Bytes, le, bytesOf, fits, putLe}
 use Rattle.little.specs.Laws.{LittleLaws}
 use Rattle.little.proofs.PartLaws.{below-or, length-part, lent, length-put, part-put, put-outside, put-same, getD-part}
+
+-- ---- bytes stay bytes
+
+pub bytes-append : (xs ys : List ℕ) → Bytes xs → Bytes ys → Bytes (xs ++ ys)
+bytes-append [] ys a b i = b i
+bytes-append (x ∷ xs) ys a b zero = a 0
+bytes-append (x ∷ xs) ys a b (suc i) = bytes-append xs ys (λ k. a (suc k)) b i
+
+bytes-take : (n : ℕ) (xs : List ℕ) → Bytes xs → Bytes (take n xs)
+bytes-take zero xs a i = omega arith
+bytes-take (suc n) [] a i = omega arith
+bytes-take (suc n) (x ∷ xs) a zero = a 0
+bytes-take (suc n) (x ∷ xs) a (suc i) = bytes-take n xs (λ k. a (suc k)) i
+
+bytes-drop : (n : ℕ) (xs : List ℕ) → Bytes xs → Bytes (drop n xs)
+bytes-drop n xs a i = rw (getD-drop n xs i 0) (a (n + i))
+
+pub bytes-part : (xs : List ℕ) (at n : ℕ) → Bytes xs → Bytes (part xs at n)
+bytes-part xs at n a = bytes-take n (drop at xs) (bytes-drop at xs a)
+
+pub bytes-put : (xs : List ℕ) (at : ℕ) (ys : List ℕ) → Bytes xs → Bytes ys → Bytes (put xs at ys)
+bytes-put xs at ys a b =
+    bytes-append (take at xs) (ys ++ drop (length ys) (drop at xs)) (bytes-take at xs a)
+    (bytes-append ys (drop (length ys) (drop at xs)) b (bytes-drop (length ys) (drop at xs) (bytes-drop at xs a)))
 
 -- ---- reading
 
@@ -60,7 +85,7 @@ le-drop width s from at =
 
 -- ---- the bytes of a number
 
-long : (width v : ℕ) → length (bytesOf width v) ≡ width
+pub long : (width v : ℕ) → length (bytesOf width v) ≡ width
 unfolding bytesOf
 long zero v = refl
 long (suc width) v = ap suc (long width (v / 256))

@@ -1,2 +1,5 @@
+-- The shared facts about tests, parts of lists and fields, and the proofs of the statements in specs/.
+pub mod TestLaws
 pub mod PartLaws
 pub mod FieldLaws
+pub mod Promise

@@ -1,14 +1,14 @@
--- The shared facts about parts of lists: a part of an append, of a store, of a part; what `put` changes and leaves; block i
+-- The shared facts about parts of lists: a part of an append, of a store; what `put` changes and leaves; block i
 -- of a flat store. Assumes nothing.
-use Prim.Native.Nat.{ℕ, zero, suc, _+_, _-_, _*_, _<_, _≤_, min}
-use mathlib.Core.Path.{_≡_, refl, sym, ap, ap₂, _∙_, subst}
-use mathlib.Core.List.{List, [], _∷_, _++_, append-assoc}
+use Prim.Native.Nat.{ℕ, suc, _+_, _-_, _*_, _<_, _≤_}
+use mathlib.Core.Path.{_≡_, sym, ap, _∙_, subst}
+use mathlib.Core.List.{List, [], _∷_, _++_}
 use mathlib.Core.Logic.{_⊎_, inl, inr, ⊎-elim}
 use native.Mathlib.Decide.{decLt}
 use native.Mathlib.Nat.{mul-le-mul-right}
 use native.Mathlib.Omega.{arith}
-use lib.ListN.{length, getD, set, take, drop, length-append, length-take, length-drop, take-append-drop, List·getD-append}
-use lib.Seq.{drop-cons, getD-take, getD-drop, getD-append-add, getD-set-same, getD-set-other, length-take-le, take-append-le, drop-append-le, drop-append-add, take-take, drop-drop, drop-at, take-at, ext-getD, take-set-le, drop-set-lt, take-set-lt, drop-set-add, take-all}
+use lib.ListN.{length, getD, take, drop, take-append-drop, length-append, length-take, length-drop, List·getD-append}
+use lib.Seq.{drop-cons, getD-take, getD-drop, getD-append-add, length-take-le, take-append-le, drop-append-le, drop-append-add, ext-getD, take-all}
 use Rattle.little.specs.Parts.{part, put, block, putBlock}
 
 pub below-or : (a b : ℕ) → (a < b) ⊎ (b ≤ a)
@@ -56,23 +56,14 @@ part-part xs from m at n h k =
     getD-part (part xs from m) at n i (omega arith) ∙ getD-part xs from m (at + i) (omega arith)
     ∙ sym (getD-part xs (from + at) n i (omega arith) ∙ ap (λ (j : ℕ). getD xs j 0) e))
 
--- a part of a `set`: outside it nothing changes, inside it the part changes at that element
-pub part-set-outside : (xs : List ℕ) (at n i a : ℕ) → (i < at) ⊎ (at + n ≤ i) → part (set xs i a) at n ≡ part xs at n
-part-set-outside xs at n i a (inl h) = ap (λ (r : List ℕ). take n r) (drop-set-lt at xs i a h)
-part-set-outside xs at n i a (inr h) =
-    let e : at + (i - at) ≡ i = omega arith in
-    ap (λ (j : ℕ). part (set xs j a) at n) (sym e)
-    ∙ ap (λ (r : List ℕ). take n r) (drop-set-add at xs (i - at) a)
-    ∙ take-set-le n (drop at xs) (i - at) a (omega arith)
-
-pub part-set-inside : (xs : List ℕ) (at n k a : ℕ) → k < n → part (set xs (at + k) a) at n ≡ set (part xs at n) k a
-part-set-inside xs at n k a h = ap (λ (r : List ℕ). take n r) (drop-set-add at xs k a) ∙ take-set-lt n (drop at xs) k a h
-
 -- ---- what `put` changes and leaves, where ys fits
 
 -- a `&mut` part that was lent and came back with ys in it
 pub lent : (xs ys : List ℕ) (at n : ℕ) → length ys ≡ n → take at xs ++ (ys ++ drop n (drop at xs)) ≡ put xs at ys
 lent xs ys at n e = ap (λ (k : ℕ). take at xs ++ (ys ++ drop k (drop at xs))) (sym e)
+
+pub put-none : (xs : List ℕ) (at : ℕ) → put xs at [] ≡ xs
+put-none xs at = take-append-drop at xs
 
 module _ (xs : List ℕ) (at : ℕ) (ys : List ℕ) (inside : at + length ys ≤ length xs) where
   length-head : length (take at xs) ≡ at

@@ -1,6 +1,6 @@
 // Little-endian fields of a slice at 16, 32 and 64 bits: total readers and writers over one definition of the width.
 ghost use mathlib.Core.Path.{_≡_};
-ghost use Prim.Native.Nat.{ℕ, _+_, _-_, _^_, _<_, _≤_, min};
+ghost use Prim.Native.Nat.{_+_, _-_, _^_, _<_, _≤_};
 ghost use lib.ListN.{length, getD};
 ghost use Rattle.little.specs.Fields.{le, bytesOf, putLe, fits};
 

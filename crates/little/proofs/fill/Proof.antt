@@ -1,6 +1,6 @@
 -- `little::fill` meets its contract. The loop's invariant: the bytes stored and those of the rest are the bytes of the number.
 -- Assumes nothing.
-use Prim.Native.Nat.{ℕ, _+_, _-_, _≤_}
+use Prim.Native.Nat.{_-_, _≤_}
 use mathlib.Core.Path.{_≡_, refl}
 use mathlib.Core.List.{_++_}
 use native.Mathlib.Nat.{sub-zero}

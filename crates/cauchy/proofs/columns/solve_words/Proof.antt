@@ -1,7 +1,6 @@
 -- `solve_words` meets its contract. Assumes nothing.
 use mathlib.Core.Path.{refl, _∙_, ap}
-use Prim.Native.Nat.{ℕ, _-_}
-use native.Mathlib.Omega.{arith}
+use Prim.Native.Nat.{ℕ}
 use lib.ListN.{length, replicate}
 use Rattle.cauchy.proofs.RebuildLaws.{room-for}
 use borrow.Author.Needs.{needs}

@@ -1,5 +1,6 @@
 -- `invert` meets its contract. Assumes nothing.
-use Rattle.cauchy.proofs.RebuildLaws.{length-range, square-inside, Rowed, rowed-start, rowed-turn, rowed-end}
+use Rattle.little.proofs.PartLaws.{length-part}
+use Rattle.cauchy.proofs.RebuildLaws.{square-inside, Rowed, rowed-start, rowed-turn, rowed-end}
 use mathlib.Core.Path.{_≡_, _∙_}
 use Prim.Native.Nat.{_+_, _-_, _*_, _≤_}
 use native.Mathlib.Nat.{add-sub-cancel-left}
@@ -33,11 +34,11 @@ part-invert-row-end c = let a = c .before .before .before .before .before .args 
 invert-row-requires : tie.Need-invert-row-requires Inv-loop μ-loop
 invert-row-requires c κs = let a = c .before .before .before .before .before .before .args in let g = c .before .before .before .before .before .before .pre in let l = c .before .before .loop in
     let w = add-sub-cancel-left (l .i * length (a .xs .now)) (length (a .xs .now)) in
-    (g .0, length-range (l .numbers) (l .i * length (a .xs .now)) _ (omega (arith, square-inside (length (a .xs .now)) (l .i) (g .1) (omega arith), l .inv .1, w)) ∙ w, omega arith)
+    (g .0, length-part (l .numbers) (l .i * length (a .xs .now)) _ (omega (arith, square-inside (length (a .xs .now)) (l .i) (g .1) (omega arith), l .inv .1, w)) ∙ w, omega arith)
 
 loop-again : tie.Need-loop-again Inv-loop μ-loop
 loop-again c = let a = c .before .before .before .before .before .before .before .before .before .args in let g = c .before .before .before .before .before .before .before .before .before .pre in let l = c .before .before .before .before .before .loop in
-    (omega arith, search needs, rowed-turn (a .xs .now) (a .ys .now) (l .numbers) _ (l .i) (l .i * length (a .xs .now) + length (a .xs .now) - l .i * length (a .xs .now)) (g .0) (g .1) (omega arith) (l .inv .1) (l .inv .2) (c .before .before .invert-row .ensures))
+    (omega arith, search needs, rowed-turn (a .xs .now) (a .ys .now) (l .numbers) _ (l .i) (l .i * length (a .xs .now) + length (a .xs .now) - l .i * length (a .xs .now)) (g .0) (g .1) (omega arith) (l .inv .1) (add-sub-cancel-left (l .i * length (a .xs .now)) (length (a .xs .now))) (l .inv .2) (c .before .before .invert-row .ensures))
 
 returns : tie.Need-returns Inv-loop μ-loop
 returns c = let a = c .before .before .before .before .before .args in let g = c .before .before .before .before .before .pre in let l = c .before .loop in rowed-end (a .xs .now) (a .ys .now) (l .numbers) (l .i) (g .0) (omega arith) (l .inv .2)

@@ -1,6 +1,6 @@
 -- `held_count` meets its contract. Assumes nothing.
 use mathlib.Core.Path.{_≡_}
-use Prim.Native.Nat.{_+_, _-_, _≤_}
+use Prim.Native.Nat.{_+_, _≤_}
 use native.Mathlib.Omega.{arith}
 use lib.ListN.{length, drop}
 use Rattle.cauchy.proofs.ListLaws.{holding-one, holding-other, holding-start, holding-end}

@@ -1,6 +1,5 @@
 -- `wrong_shape` meets its contract. Assumes nothing.
 use mathlib.Core.Path.{refl}
-use borrow.Author.Needs.{needs}
 use Rattle.cauchy.proofs.shape.wrong_shape.Statement.{statement}
 use Rattle.cauchy.proofs.shape.wrong_shape.Tie as tie
 use Rattle.cauchy.specs.Calls.{wrongShape}

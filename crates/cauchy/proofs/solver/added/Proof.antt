@@ -1,4 +1,4 @@
--- `cauchy::added` meets its contract. Assumes nothing.
+-- `cauchy::solver::added` meets its contract. Assumes nothing.
 use borrow.Author.Needs.{needs}
 use Rattle.cauchy.proofs.solver.added.Statement.{statement}
 use Rattle.cauchy.proofs.solver.added.Tie as tie

@@ -1,4 +1,4 @@
--- `cauchy::pass_backward` meets its contract. The loop's invariant is `Backward`. Assumes nothing.
+-- `cauchy::solver::pass_backward` meets its contract. The loop's invariant is `Backward`. Assumes nothing.
 use mathlib.Core.Path.{_≡_, subst}
 use Prim.Native.Nat.{ℕ, suc, _-_, _≤_}
 use native.Mathlib.Omega.{arith}

@@ -1,4 +1,4 @@
--- `cauchy::pass_forward` meets its contract. The loop's invariant is `Forward`. Assumes nothing.
+-- `cauchy::solver::pass_forward` meets its contract. The loop's invariant is `Forward`. Assumes nothing.
 use Prim.Native.Nat.{_-_, _≤_}
 use mathlib.Core.Path.{_≡_}
 use native.Mathlib.Omega.{arith}

@@ -1,7 +1,6 @@
 -- `plus` meets its contract. Assumes nothing.
 use mathlib.Core.Path.{refl}
 use lib.Bits.{xor-lt}
-use borrow.Author.Needs.{needs}
 use Rattle.cauchy.proofs.solver.plus.Statement.{statement}
 use Rattle.cauchy.proofs.solver.plus.Tie as tie
 

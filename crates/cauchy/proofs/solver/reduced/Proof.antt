@@ -1,4 +1,4 @@
--- `cauchy::reduced` meets its contract. Assumes nothing.
+-- `cauchy::solver::reduced` meets its contract. Assumes nothing.
 use borrow.Author.Needs.{needs}
 use Rattle.cauchy.proofs.solver.reduced.Statement.{statement}
 use Rattle.cauchy.proofs.solver.reduced.Tie as tie

@@ -1,4 +1,4 @@
--- `cauchy::round` meets its contract. The loop's invariant is `RoundTo`. Assumes nothing.
+-- `cauchy::solver::round` meets its contract. The loop's invariant is `RoundTo`. Assumes nothing.
 use Prim.Native.Nat.{_-_}
 use native.Mathlib.Omega.{arith}
 use borrow.Author.Needs.{needs}

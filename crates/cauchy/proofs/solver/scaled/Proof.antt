@@ -1,4 +1,4 @@
--- `cauchy::scaled` meets its contract. Assumes nothing.
+-- `cauchy::solver::scaled` meets its contract. Assumes nothing.
 use borrow.Author.Needs.{needs}
 use Rattle.cauchy.proofs.solver.scaled.Statement.{statement}
 use Rattle.cauchy.proofs.solver.scaled.Tie as tie

@@ -1,4 +1,4 @@
--- `cauchy::solve_in_place` meets its contract: the two passes are `solve`. Assumes nothing.
+-- `cauchy::solver::solve_in_place` meets its contract: the two passes are `solve`. Assumes nothing.
 use mathlib.Core.Path.{sym, _∙_, ap}
 use borrow.Author.Needs.{needs}
 use Rattle.cauchy.proofs.solver.solve_in_place.Statement.{statement}

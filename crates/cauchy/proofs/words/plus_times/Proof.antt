@@ -1,7 +1,6 @@
 -- `plus_times` meets its contract. Assumes nothing.
 use mathlib.Core.Path.{ap}
-use Prim.Native.Nat.{_-_, _<_}
-use native.Mathlib.Omega.{arith}
+use Prim.Native.Nat.{_<_}
 use lib.Bits.{bitXor, xor-lt}
 use Rattle.gf16.proofs.Laws.{laws}
 use borrow.Author.Needs.{needs}
