@@ -1,20 +1,20 @@
 -- One block under offers, by itself: what a payload makes of its bytes and its mark, and that order does not matter.
 -- Assumes nothing.
 use Prim.Native.Nat.{ℕ, zero, suc, _+_, _*_, _<_, _≤_}
-use mathlib.Core.Path.{_≡_, refl, sym, ap, ap₂, _∙_}
+use mathlib.Core.Path.{_≡_, refl, sym, ap, _∙_}
 use mathlib.Core.List.{List}
 use mathlib.Core.Bool.{Bool, true, false, cond}
 use mathlib.Core.Logic.{_⊎_, inl, inr, ⊎-elim}
 use native.Mathlib.Decide.{ℕ-discrete}
 use native.Mathlib.Omega.{arith}
-use borrow.Author.Tests.{eq-eqb, ne-eqb}
+use borrow.Author.Tests.{ne-eqb}
 use lib.Dec.{eqb, lit<}
 use lib.ListN.{length, getD, set, length-set, length-replicate}
 use lib.Seq.{getD-set-same, getD-set-other, set-set, set-comm}
 use Rattle.little.specs.Parts.{block, putBlock}
 use Rattle.little.proofs.PartLaws.{block-inside, blocks-apart, length-block, length-putBlock, block-put, block-put-other, put-put, put-swap}
 use Rattle.sfc.specs.Bytes.{zeros, same}
-use Rattle.sfc.proofs.RunLaws.{same-eq, same-refl, same-differ, same-apart}
+use Rattle.sfc.proofs.RunLaws.{same-eq, same-differ, same-apart}
 
 -- bytes and mark of a block after a payload came for it
 pub done : ℕ → List ℕ → List ℕ → List ℕ × ℕ

@@ -106,7 +106,7 @@ module _ (h : Head) (i : ℕ) (p rest : List ℕ) (m : Made h i p) where
   type-back : typeOf made ≡ typeFor (h .n) i
   type-back = number-at made at-28 24 4 (typeFor (h .n) i) from-24 (type-small (h .n) i)
 
-  length-back : payloadLength made ≡ h .s
+  pub length-back : payloadLength made ≡ h .s
   length-back = number-at made at-32 28 4 (h .s) from-28 (m .s-small)
 
   pub payload-back : payloadOf made ≡ p
@@ -146,7 +146,7 @@ module _ (h : Head) (i : ℕ) (p rest : List ℕ) (m : Made h i p) where
 
   -- ---- the checks
 
-  length-passed : Passed (lengthChecks (h .s) made)
+  pub length-passed : Passed (lengthChecks (h .s) made)
   length-passed = (
     le-ltb (length made) 48 (omega (arith, long)),
     (

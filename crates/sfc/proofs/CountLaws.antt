@@ -10,6 +10,7 @@ use lib.Dec.{eqb, lit≤}
 use lib.ListN.{length, getD, set, length-set, getD-replicate}
 use lib.Seq.{getD-set-same, getD-set-other}
 use borrow.Author.Tests.{eqb-true, eqb-false, eq-eqb, ne-eqb}
+use Rattle.little.proofs.TestLaws.{or-false}
 use Rattle.sfc.specs.Bytes.{zeros}
 use Rattle.sfc.specs.Numbers.{Check, checked, numberOf, reasonOf}
 use Rattle.sfc.specs.Chunk.{indexOf}
@@ -22,7 +23,6 @@ use Rattle.sfc.specs.declared.reason.Reason.{Reason}
 use Rattle.sfc.specs.declared.tallies.Tallies.{Tallies}
 use Rattle.sfc.specs.declared.session.Verdict.{Verdict}
 use Rattle.sfc.specs.declared.session.Verdict.the-variants.{Fresh, Repeat, Refused}
-use Rattle.sfc.proofs.HeaderLaws.{or-false}
 use Rattle.sfc.proofs.HistoryLaws.{after-tallies}
 use Rattle.sfc.proofs.OfferLaws.{never-refused}
 

@@ -1,12 +1,11 @@
 -- The content cut into data blocks: how many there are, and the last one padded apart from those before it. Assumes nothing.
-use Prim.Native.Nat.{ℕ, zero, suc, _+_, _-_, _*_, _/_, _%_, _<_, _≤_}
+use Prim.Native.Nat.{ℕ, _+_, _-_, _*_, _%_, _≤_}
 use mathlib.Core.Path.{_≡_, sym, ap, ap₂, _∙_}
 use mathlib.Core.Bool.{false}
 use mathlib.Core.List.{List, _++_, append-assoc}
-use native.Mathlib.Nat.{add-mul, one-mul, zero-mul, div-add-mod', mod-lt, mul-le-mul}
+use native.Mathlib.Nat.{add-mul, one-mul, mul-le-mul}
 use native.Mathlib.Omega.{arith}
 use borrow.Author.Tests.{le-ltb, eq-eqb, ne-eqb}
-use lib.Dec.{eqb·suc-zero}
 use lib.ListN.{length, take, drop, length-append, length-drop, take-append-drop}
 use lib.Seq.{length-take-le, take-at}
 use Rattle.little.specs.Parts.{part}
@@ -14,7 +13,7 @@ use Rattle.little.proofs.PartLaws.{part-rest}
 use Rattle.cauchy.specs.Code.{joined}
 use Rattle.cauchy.specs.Calls.{wrongShape}
 use Rattle.sfc.specs.Bytes.{zeros, padded}
-use Rattle.sfc.specs.Limits.{wantedBlocks, shapeWrong}
+use Rattle.sfc.specs.Limits.{shapeWrong}
 use Rattle.sfc.proofs.MarkLaws.{RightShape, right-shape}
 use Rattle.sfc.proofs.LayoutLaws.{length-padded}
 use Rattle.sfc.proofs.LimitLaws.{wanted-holds}

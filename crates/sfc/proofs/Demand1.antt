@@ -1,20 +1,21 @@
 -- Demand 1 (specs/Demand1.antt), call by call. Assumes nothing.
 use Prim.Native.Nat.{ℕ, _*_, _≤_, _<_}
 use mathlib.Core.Path.{_≡_, refl, sym, ap, ap₂, _∙_}
-use mathlib.Core.Bool.{Bool, true, false, cond, not, _&&_, _||_}
+use mathlib.Core.Bool.{Bool, true, false, cond, not, _&&_, _||_, false≢true}
 use mathlib.Core.List.{List, [], _∷_}
 use native.Mathlib.Omega.{arith}
 use borrow.Author.Tests.{eqb-true, ltb-false, leb-false, le-ltb, lt-leb, not-false}
 use lib.Dec.{eqb, ltb, lit≤}
 use lib.ListN.{length, getD}
 use Rattle.little.specs.Parts.{put}
+use Rattle.little.proofs.TestLaws.{or-false}
 use Rattle.sfc.specs.Bytes.{any, zeros}
 use Rattle.sfc.specs.Numbers.{Check, checked, verdict, passes, numberOf}
 use Rattle.sfc.specs.Header.{headerChecks, regionOf, headOf, refusedHeader, acceptedHeader, readHeader}
-use Rattle.sfc.specs.Chunk.{indexOf, chunkChecks, number, place, checkChunk}
+use Rattle.sfc.specs.Chunk.{indexOf, number, place, aloneChecks, checkChunk}
 use Rattle.sfc.specs.Marks.{isHeld, heldCount}
 use Rattle.sfc.specs.Tallies.{counted, countedRefusal}
-use Rattle.sfc.specs.Session.{Session, blank, mark, lentWrong, offerChecks, welcomed, verdictOf, withBlock, settled, after}
+use Rattle.sfc.specs.Session.{Session, mark, lentWrong, offerChecks, welcomed, verdictOf, withBlock, settled, after}
 use Rattle.sfc.specs.HandOut.{Lent, rebuildWrong, lentAfter, contentOf, handOutLent, contentChecks, handOutChecks, handOut}
 use Rattle.sfc.specs.Block.{blockGiven, blockLent, blockChecks, blockRequest}
 use Rattle.sfc.specs.Prefix.{prefixBlocks, prefixOf, prefixChecks, prefixGiven}
@@ -43,17 +44,15 @@ use Rattle.sfc.specs.declared.missing.Listed.the-variants.{Count, Refuse
 use Rattle.sfc.specs.declared.note.NoteRead.{NoteRead}
 use Rattle.sfc.specs.declared.written.Written.{Written}
 use Rattle.sfc.specs.declared.written.Written.the-variants.{Bytes as Took, Refused as NotWritten}
-use Rattle.sfc.proofs.CheckLaws.{passed, good-all, refused-all}
-use Rattle.sfc.proofs.RunLaws.{true≢false}
-use Rattle.sfc.proofs.HeaderLaws.{or-false}
-use Rattle.sfc.proofs.SessionLaws.{right-lent, after-by, number-in, chunk-number}
+use Rattle.sfc.proofs.CheckLaws.{passed, good-all, refused-all, tells}
+use Rattle.sfc.proofs.SessionLaws.{right-lent, after-by, number-in}
 use Rattle.sfc.proofs.HistoryLaws.{after-tallies}
 use Rattle.sfc.proofs.OfferLaws.{one-offer}
 use Rattle.sfc.proofs.NoteLaws.{length-bounds}
 use Rattle.sfc.proofs.HeldLaws.{length-decode, length-content}
 use Rattle.sfc.proofs.GivenLaws.{lent-right, lent-output, complete-has-hash}
 use Rattle.sfc.proofs.FieldInside.{field-inside}
-use Rattle.sfc.proofs.RefusalLaws.{tells, leaves, ends, early-told}
+use Rattle.sfc.proofs.RefusalLaws.{leaves, ends, early-told}
 
 -- ---- the verdict in each kind of answer
 
@@ -92,11 +91,12 @@ header-refused b r e =
     ((lit≤ tt, lit≤ tt), ((lit≤ tt, lit≤ tt), ((lit≤ tt, lit≤ tt), ((lit≤ tt, lit≤ tt), ((lit≤ tt, lit≤ tt), ((lit≤ tt, lit≤ tt), ((lit≤ tt, lit≤ tt), ((lit≤ tt, lit≤ tt), ((lit≤ tt, lit≤ tt), ((lit≤ tt, lit≤ tt), ((lit≤ tt, lit≤ tt), ((lit≤ tt, lit≤ tt), ((lit≤ tt, lit≤ tt), ((lit≤ tt, lit≤ tt), ((lit≤ tt, lit≤ tt), tt))))))))))))))) t in
     (n .0, n .1, refused-all refusedHeader (headerChecks b) (acceptedHeader (headOf (regionOf b))) r t)
 
-chunk-refused : (h : Head) (c : List ℕ) (r : Reason) → checkChunk h c ≡ NoChunk r → (30 ≤ numberOf r) × (numberOf r ≤ 40)
-unfolding checkChunk
+chunk-refused : (h : Head) (c : List ℕ) (r : Reason) → checkChunk h c ≡ NoChunk r → OneOf r (71 ∷ 30 ∷ 31 ∷ 32 ∷ 33 ∷ 34 ∷ 35 ∷ 36 ∷ 37 ∷ 38 ∷ 39 ∷ 40 ∷ [])
+unfolding checkChunk any
 chunk-refused h c r e =
-    chunk-number h (blank h) c r
-    (tells chunkSeen NoChunk (Whole (number (indexOf c)) (place 48)) (λ q. refl) refl (chunkChecks h c) (Refused r) (ap chunkSeen e))
+    number-in (λ (k : ℕ). among k (71 ∷ 30 ∷ 31 ∷ 32 ∷ 33 ∷ 34 ∷ 35 ∷ 36 ∷ 37 ∷ 38 ∷ 39 ∷ 40 ∷ []) ≡ true) (aloneChecks h c) r
+    (refl, (refl, (refl, (refl, (refl, (refl, (refl, (refl, (refl, (refl, (refl, (refl, (refl, tt)))))))))))))
+    (tells chunkSeen NoChunk (Whole (number (indexOf c)) (place 48)) (λ q. refl) refl (aloneChecks h c) (Refused r) (ap chunkSeen e))
 
 -- ---- an offer
 
@@ -125,7 +125,7 @@ module _ (h : Head) (x : Session) (c : List ℕ) (r : Reason) (e : verdictOf h x
       go : (a b : Bool) → eqb (numberOf r) 71 ≡ a → eqb (numberOf r) 43 ≡ b → (a || (b || false)) ≡ true → refusedBy (numberOf r) ≡ x
       go true b f g q = ap refusedBy (eqb-true (numberOf r) 71 f)
       go false true f g q = ap refusedBy (eqb-true (numberOf r) 43 g)
-      go false false f g q = true≢false (sym q)
+      go false false f g q = absurd (false≢true q)
 
   offer-counted : after h x c .tallies ≡ countedRefusal (x .tallies) (numberOf r)
   unfolding counted

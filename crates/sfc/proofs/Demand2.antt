@@ -16,27 +16,27 @@ use Rattle.sfc.specs.Bytes.{any}
 use Rattle.sfc.specs.Limits.{wantedBlocks, shapeWrong}
 use Rattle.sfc.specs.Extension.{fieldsIn, leftIn, risingFrom, extensionWrong}
 use Rattle.sfc.specs.Header.{flagsBarred, distinctBelow, acceptedHeader, readHeader}
-use Rattle.sfc.specs.Chunk.{indexOf, payloadOf, chunkChecks, number, place, checkChunk}
-use Rattle.sfc.specs.Writer.{Input, blocks, body, region, preamble, trailer, payload, chunk, fileOf, nameWrong, hasSplit, writeFile, headFor}
+use Rattle.sfc.specs.Chunk.{indexOf, payloadOf, chunkChecks, number, place, aloneChecks, checkChunk}
+use Rattle.sfc.specs.Writer.{Input, blocks, body, region, preamble, trailer, payload, chunk, fileOf, nameWrong, hasReserved, writeFile, headFor}
 use Rattle.sfc.specs.Demand2.{Lawful, plain, Demand2}
 use Rattle.sfc.specs.declared.chunk.ChunkChecked.the-variants.{Whole, Refused}
 use Rattle.sfc.specs.declared.written.Written.{Written}
 use Rattle.sfc.specs.declared.written.Written.the-variants.{Bytes as Took}
-use Rattle.sfc.proofs.CheckLaws.{good-all}
+use Rattle.sfc.proofs.CheckLaws.{passed, all-passed, good-all}
 use Rattle.sfc.proofs.MarkLaws.{right-shape}
 use Rattle.sfc.proofs.GivenLaws.{complete-has-hash}
 use Rattle.sfc.proofs.HeldLaws.{block-joined}
-use Rattle.sfc.proofs.LengthLaws.{length-chunk, length-joined}
+use Rattle.sfc.proofs.FileLaws.{length-written, length-chunks, file-length}
 use Rattle.sfc.proofs.RegionBack.{length-region}
 use Rattle.sfc.proofs.InputLaws.{Typed, RightInput, right-input, tests-are}
-use Rattle.sfc.proofs.HeaderBack.{preamble-long, length-given, header-back}
-use Rattle.sfc.proofs.RoundTrip.{length-payload, chunk-of, offers-answered, round-trip}
+use Rattle.sfc.proofs.HeaderBack.{preamble-long, header-back}
+use Rattle.sfc.proofs.RoundTrip.{chunk-of, offers-answered, round-trip}
 
 -- ---- inputs that 60 lets through
 
 any-content : (content : List ℕ) (s m : ℕ) (uuid : List ℕ) → Bytes content → length uuid ≡ 16 → shapeWrong (length content) (wantedBlocks (length content) s) m s ≡ false
     → Lawful (plain content s m uuid)
-unfolding nameWrong hasSplit fieldsIn leftIn risingFrom any flagsBarred distinctBelow extensionWrong
+unfolding nameWrong hasReserved fieldsIn leftIn risingFrom any flagsBarred distinctBelow extensionWrong
 any-content content s m uuid b u e =
     let r = right-shape (length content) (wantedBlocks (length content) s) m s e in
     let t : Typed (plain content s m uuid) = record {
@@ -78,18 +78,8 @@ module _ (w : Input) (l : Lawful w) where
 
   -- ---- the chunks
 
-  chunk-long : (i : ℕ) → length (chunk w i) ≡ 84 + w .s
-  unfolding chunk
-  chunk-long i =
-      length-chunk (w .uuid) (blocks w) (w .m) (w .s) i (payload w i) (l .uuid-long)
-      ∙ ap (λ (k : ℕ). 84 + k) (length-payload w (l .uuid-long) (right .shape) i)
-
   chunks-long : length chunks ≡ (blocks w + w .m) * (84 + w .s)
-  chunks-long = length-joined (chunk w) 0 (blocks w + w .m) (84 + w .s) (λ i h. chunk-long (0 + i))
-
-  file-length : length (fileOf w) ≡ 76 + length (body w) + (blocks w + w .m) * (84 + w .s)
-  unfolding fileOf
-  file-length = length-given w (l .uuid-long) right chunks ∙ ap (λ (k : ℕ). 76 + length (body w) + k) chunks-long
+  chunks-long = length-chunks w (l .uuid-long) (l .right)
 
   module _ (i : ℕ) (h : i < blocks w + w .m) where
     chunk-in-file : part (fileOf w) (12 + length (body w) + i * (84 + w .s)) (84 + w .s) ≡ chunk w i
@@ -100,13 +90,14 @@ module _ (w : Input) (l : Lawful w) where
         ap₂ (λ (f : List ℕ) (k : ℕ). part f (k + i * (84 + w .s)) (84 + w .s)) (append-assoc (preamble ++ region w) chunks (trailer w)) n
         ∙ part-append-right (preamble ++ region w) (chunks ++ trailer w) (i * (84 + w .s)) (84 + w .s)
         ∙ part-append-left chunks (trailer w) (i * (84 + w .s)) (84 + w .s) (omega (arith, chunks-long, block-inside (84 + w .s) (blocks w + w .m) i h))
-        ∙ block-joined (84 + w .s) (chunk w) 0 (blocks w + w .m) i (λ j a b. chunk-long j) h ∙ ap (chunk w) z
+        ∙ block-joined (84 + w .s) (chunk w) 0 (blocks w + w .m) i (λ j a b. length-written w (l .uuid-long) (l .right) j) h ∙ ap (chunk w) z
 
     chunk-read-back : (rest : List ℕ) → (checkChunk (headFor w) (chunk w i ++ rest) ≡ Whole (number i) (place 48)) × (payloadOf (chunk w i ++ rest) ≡ payload w i)
     unfolding checkChunk
     chunk-read-back rest =
         let c = chunk-of w (l .uuid-long) (right .shape) i h rest in (
-          good-all Refused (chunkChecks (headFor w) (chunk w i ++ rest)) (Whole (number (indexOf (chunk w i ++ rest))) (place 48)) (c .whole)
+          good-all Refused (aloneChecks (headFor w) (chunk w i ++ rest)) (Whole (number (indexOf (chunk w i ++ rest))) (place 48))
+              (all-passed (aloneChecks (headFor w) (chunk w i ++ rest)) (right .shape, passed (chunkChecks (headFor w) (chunk w i ++ rest)) (c .whole)))
               ∙ ap (λ (k : ℕ). Whole (number k) (place 48)) (c .index),
           c .brings,
         )
@@ -115,7 +106,7 @@ pub demand2 : Demand2
 demand2 = record {
   any-content = any-content;
   file-written = file-written;
-  file-length = file-length;
+  file-length = λ w l. file-length w (l .uuid-long) (l .right);
   header-read-back = header-read-back;
   file-read-back = file-read-back;
   chunk-in-file = chunk-in-file;

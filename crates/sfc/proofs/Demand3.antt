@@ -8,6 +8,7 @@ use borrow.Author.Tests.{ltb-true, lt-ltb, le-ltb, eqb-false, ne-eqb, not-true}
 use lib.Dec.{ltb}
 use lib.ListN.{length, getD}
 use Rattle.little.specs.Parts.{put, block}
+use Rattle.little.proofs.TestLaws.{or-false, and-both}
 use Rattle.cauchy.specs.Decode.{decode, decoded, holding}
 use Rattle.cauchy.specs.Theorems.{Shape}
 use Rattle.cauchy.proofs.UsedLaws.{as-decoded}
@@ -21,8 +22,10 @@ use Rattle.sfc.specs.Demand3.{Right, heldIn, Fitting, Gives, Withholds, 
 use Rattle.sfc.specs.declared.header.Head.{Head}
 use Rattle.sfc.specs.declared.missing.Listed.{Listed}
 use Rattle.sfc.specs.declared.missing.Listed.the-variants.{Count}
-use Rattle.sfc.proofs.RunLaws.{and-true}
-use Rattle.sfc.proofs.HeaderLaws.{or-false}
+use Rattle.sfc.proofs.OfferLaws.{one-offer}
+use Rattle.sfc.proofs.HistoryLaws.{many-offers}
+use Rattle.sfc.proofs.EndLaws.{end-state}
+use Rattle.sfc.proofs.CountLaws.{tallies-count}
 use Rattle.sfc.proofs.SessionLaws.{RightLent, right-lent}
 use Rattle.sfc.proofs.MissingExact.{missing-exact}
 use Rattle.sfc.proofs.HeldLaws.{held-holding, right-code, block-decoded}
@@ -86,8 +89,8 @@ module _ (h : Head) (x : Session) (r : Right h x) where
 
   missing-open : (j : ℕ) → among j (missing (h .n) (x .marks)) ≡ true → Open h x j
   missing-open j e =
-      let a = and-true _ _ (sym (listed j) ∙ e) in
-      let b = and-true _ _ (a .1) in
+      let a = and-both _ _ (sym (listed j) ∙ e) in
+      let b = and-both _ _ (a .1) in
       record {
         is-data = ltb-true j (h .n) (b .0);
         few = ltb-true (heldIn x) (h .n) (a .0);
@@ -107,6 +110,10 @@ module _ (h : Head) (x : Session) (r : Right h x) where
 pub demand3 : Demand3
 demand3 = record {
   accepted-right = accepted-right;
+  end-state = end-state;
+  one-offer = one-offer;
+  many-offers = many-offers;
+  tallies-count = tallies-count;
   block-known = block-known;
   block-held = λ h x r j q. gives-held h x j q;
   block-free = block-free;

@@ -1,7 +1,7 @@
 -- Marks that say held just at the numbers of a list count its different numbers. Assumes nothing.
 use Prim.Native.Nat.{ℕ, zero, suc, _<_}
 use mathlib.Core.Path.{_≡_, refl, sym, ap, _∙_}
-use mathlib.Core.Bool.{Bool, true, false, cond, _||_}
+use mathlib.Core.Bool.{Bool, true, false, cond, _||_, false≢true}
 use mathlib.Core.List.{List, [], _∷_}
 use native.Mathlib.Decide.{ℕ-discrete}
 use native.Mathlib.Omega.{arith}
@@ -12,7 +12,6 @@ use Rattle.sfc.specs.Bytes.{any}
 use Rattle.sfc.specs.Marks.{isHeld, heldCount}
 use Rattle.sfc.specs.NoteTheorems.{among}
 use Rattle.sfc.specs.Demand2.{AllBelow, different}
-use Rattle.sfc.proofs.RunLaws.{true≢false}
 
 none-held : (marks : List ℕ) → ((j : ℕ) → j < length marks → isHeld (getD marks j 0) ≡ false) → heldCount marks ≡ 0
 unfolding heldCount
@@ -21,7 +20,7 @@ none-held (k ∷ marks) f = rw (f 0 (omega arith)) (none-held marks (λ j h. f (
 
 one-less : (marks : List ℕ) (i : ℕ) → isHeld (getD marks i 0) ≡ true → heldCount marks ≡ suc (heldCount (set marks i 0))
 unfolding heldCount
-one-less [] i e = true≢false (sym e)
+one-less [] i e = absurd (false≢true e)
 one-less (k ∷ marks) zero e = rw e
 one-less (k ∷ marks) (suc i) e = go (isHeld k) (one-less marks i e)
   where

@@ -1,7 +1,7 @@
 -- What each index comes to follows from the payloads that came for it (SessionTheorems, EndState). Assumes nothing.
-use Prim.Native.Nat.{ℕ, zero, suc, _+_, _*_, _<_}
+use Prim.Native.Nat.{ℕ, _+_, _*_, _<_}
 use mathlib.Core.Path.{_≡_, refl, sym, ap, ap₂, _∙_}
-use mathlib.Core.Bool.{Bool, true, false, cond, not, _&&_}
+use mathlib.Core.Bool.{Bool, true, false, cond, _&&_}
 use mathlib.Core.List.{List, [], _∷_}
 use native.Mathlib.Decide.{ℕ-discrete}
 use native.Mathlib.Omega.{arith}
@@ -12,29 +12,18 @@ use lib.Seq.{getD-set-same, getD-set-other, ext-getD}
 use Rattle.little.specs.Parts.{block}
 use Rattle.little.proofs.PartLaws.{getD-part, length-block, block-put, block-put-other}
 use Rattle.sfc.specs.Bytes.{zeros, same}
-use Rattle.sfc.specs.Numbers.{Check, verdict, passes, reasonOf}
+use Rattle.sfc.specs.Numbers.{verdict, passes}
 use Rattle.sfc.specs.Chunk.{indexOf, payloadOf, chunkChecks}
-use Rattle.sfc.specs.Session.{Session, blank, mark, blockOf, sessionWrong}
-use Rattle.sfc.specs.History.{afterAll, payloadsFor, allSame, endOf}
-use Rattle.sfc.specs.SessionTheorems.{ShortOf43, EndState}
+use Rattle.sfc.specs.Session.{blank}
+use Rattle.sfc.specs.History.{payloadsFor, allSame, endOf}
+use Rattle.sfc.specs.SessionTheorems.{EndState}
 use Rattle.sfc.specs.declared.header.Head.{Head}
-use Rattle.sfc.specs.declared.reason.Reason.{Reason}
 use Rattle.sfc.specs.declared.reason.Checked.{Checked}
 use Rattle.sfc.specs.declared.reason.Checked.the-variants.{Good, Refused as Wrong}
+use Rattle.sfc.proofs.CheckLaws.{good-passes, wrong-fails}
 use Rattle.sfc.proofs.BlockSteps.{done, done-absent, done-copy, done-differs, done-barred, Kept, Sound, doneAt, laidAt, keeps}
 use Rattle.sfc.proofs.HistoryLaws.{keptOf, keptWrong, sound, keep, keep-foreign, keep-good, keep-right, good-brings, keepAll, kept-all}
-
--- ---- a list of checks passes exactly if its verdict is good
-
-pub good-passes : (cs : List Check) → verdict cs ≡ Good → passes cs ≡ true
-good-passes [] e = refl
-good-passes ((true, k) ∷ cs) e = absurd (let z : _≡_ {A = ℕ} 0 1 = cc in omega arith)
-good-passes ((false, k) ∷ cs) e = good-passes cs e
-
-pub wrong-fails : (cs : List Check) (r : Reason) → verdict cs ≡ Wrong r → passes cs ≡ false
-wrong-fails [] r e = absurd (let z : _≡_ {A = ℕ} 0 1 = cc in omega arith)
-wrong-fails ((true, k) ∷ cs) r e = refl
-wrong-fails ((false, k) ∷ cs) r e = wrong-fails cs r e
+use Rattle.sfc.proofs.RightLaws.{zero-at}
 
 -- ---- one block under a list of payloads
 
@@ -116,11 +105,6 @@ module _ (h : Head) (i : ℕ) (inside : i < h .n + h .m) where
       go Good false f ih = rw (good-passes (chunkChecks h c) f) ih
 
 -- ---- a session that starts blank
-
-zero-at : (n i : ℕ) → getD (zeros n) i 0 ≡ 0
-zero-at zero i = refl
-zero-at (suc n) zero = refl
-zero-at (suc n) (suc i) = zero-at n i
 
 blank-block : (s n i : ℕ) → i < n → block s (zeros (n * s)) i ≡ zeros s
 blank-block s n i h =

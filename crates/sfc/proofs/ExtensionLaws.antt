@@ -1,8 +1,8 @@
 -- The walk over extension fields: what is left to find wrong from a place on. Assumes nothing.
 use Prim.Native.Nat.{ℕ, zero, suc, _+_, _-_, _<_, _≤_}
 use mathlib.Core.Path.{_≡_, refl, sym, ap, _∙_}
-use mathlib.Core.Bool.{Bool, true, false, cond, not, _&&_, _||_}
-use mathlib.Core.List.{List, [], _∷_, map}
+use mathlib.Core.Bool.{Bool, true, false, not, _&&_, _||_, or-false}
+use mathlib.Core.List.{List, map}
 use mathlib.Core.Logic.{⊎-elim}
 use native.Mathlib.Omega.{arith}
 use borrow.Author.Tests.{le-leb, lt-leb, lt-ltb, le-ltb}
@@ -13,7 +13,10 @@ use Rattle.little.specs.Parts.{part}
 use Rattle.little.specs.Fields.{le}
 use Rattle.little.proofs.PartLaws.{below-or, length-part}
 use Rattle.sfc.specs.Bytes.{any}
-use Rattle.sfc.specs.Extension.{Field, fieldAt, wholeField, fieldsIn, leftIn, risingFrom, ruleBroken, fieldWrong, extensionWrong}
+use Rattle.sfc.specs.Extension.{Field, wholeField, fieldsIn, leftIn, risingFrom, ruleBroken, fieldWrong, extensionWrong}
+
+nothing-more : (a : Bool) → (a || false || false) ≡ a
+nothing-more a = or-false (a || false) ∙ or-false a
 
 module _ (blocks flags : ℕ) where
   -- something is wrong with the fields from the front of e on, of which the first has a tag of at least `least`
@@ -29,19 +32,11 @@ module _ (blocks flags : ℕ) where
   -- no field may be read any more, or none is whole
   pub walk-none : (least : ℕ) (e : List ℕ) → ltb 0 (length e) ≡ walk 0 least e
   unfolding walk leftIn fieldsIn risingFrom any
-  walk-none least e = regroup (ltb 0 (length e))
-    where
-      regroup : (a : Bool) → a ≡ (a || false || false)
-      regroup true = refl
-      regroup false = refl
+  walk-none least e = sym (nothing-more (ltb 0 (length e)))
 
   pub walk-cut : (most least : ℕ) (e : List ℕ) → wholeField e ≡ false → ltb 0 (length e) ≡ walk (suc most) least e
   unfolding walk leftIn fieldsIn risingFrom any
-  walk-cut most least e h = rw h (regroup (ltb 0 (length e)))
-    where
-      regroup : (a : Bool) → a ≡ (a || false || false)
-      regroup true = refl
-      regroup false = refl
+  walk-cut most least e h = rw h (sym (nothing-more (ltb 0 (length e))))
 
   -- a whole field: it is out of order, it breaks a rule, or the fields behind it are wrong
   pub walk-field : (most least : ℕ) (e : List ℕ) → wholeField e ≡ true → length (part e 6 (le e 2 4)) ≡ le e 2 4

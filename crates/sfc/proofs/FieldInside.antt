@@ -8,6 +8,7 @@ use borrow.Author.Tests.{leb-true}
 use lib.Dec.{leb, eqb}
 use lib.ListN.{length, drop, length-take, length-drop}
 use Rattle.little.specs.Fields.{le}
+use Rattle.little.proofs.TestLaws.{and-both}
 use Rattle.sfc.specs.Limits.{lengthWrong}
 use Rattle.sfc.specs.Extension.{wholeField}
 use Rattle.sfc.specs.Header.{lengthField, regionOf}
@@ -15,7 +16,6 @@ use Rattle.sfc.specs.Chunk.{place}
 use Rattle.sfc.specs.Lookup.{foundIn, extensionOf, extensionPlace, findField}
 use Rattle.sfc.specs.declared.places.BytePlace.{BytePlace}
 use Rattle.sfc.specs.declared.lookup.FieldFound.the-variants.{At, Nothing}
-use Rattle.sfc.proofs.RunLaws.{and-true}
 
 not-found : {A : Type 0} (p : BytePlace) (n : ℕ) → Nothing ≡ At p n → A
 not-found p n e = absurd (let z : _≡_ {A = ℕ} 0 1 = cc in omega arith)
@@ -28,7 +28,7 @@ same-found p q n k e =
 
 whole-long : (e : List ℕ) → wholeField e ≡ true → 6 + le e 2 4 ≤ length e
 unfolding wholeField
-whole-long e w = leb-true (6 + le e 2 4) (length e) (and-true (leb 6 (length e)) (leb (6 + le e 2 4) (length e)) w .1)
+whole-long e w = leb-true (6 + le e 2 4) (length e) (and-both (leb 6 (length e)) (leb (6 + le e 2 4) (length e)) w .1)
 
 -- among fields whose first byte is at place `at`
 found-inside : (most tag at : ℕ) (e : List ℕ) (p n : ℕ) → foundIn most tag at e ≡ At (place p) n → (0 < length e) × (p + n ≤ at + length e)

@@ -1,20 +1,18 @@
 -- How long a written file is, and what the functions that lay down its region and the whole leave, one equation for each call. Assumes nothing.
-use Prim.Native.Nat.{ℕ, _+_, _-_, _*_, _%_, _<_, _≤_}
-use mathlib.Core.Path.{_≡_, refl, sym, ap, ap₂, _∙_}
-use mathlib.Core.Bool.{Bool, true, false, cond}
+use Prim.Native.Nat.{ℕ, _+_, _-_, _*_, _<_, _≤_}
+use mathlib.Core.Path.{_≡_, sym, ap, ap₂, _∙_}
+use mathlib.Core.Bool.{true, false}
 use mathlib.Core.List.{List, _++_, append-assoc}
 use native.Mathlib.Nat.{mul-le-mul}
 use native.Mathlib.Omega.{arith}
-use borrow.Author.Tests.{ltb-true, lt-ltb, le-ltb}
-use lib.Dec.{ltb}
+use borrow.Author.Tests.{lt-ltb, le-ltb}
 use lib.ListN.{length, take, drop, length-append, length-replicate}
-use Rattle.little.specs.Parts.{part, block, put}
+use Rattle.little.specs.Parts.{part, put}
 use Rattle.little.specs.Fields.{bytesOf, putLe}
-use Rattle.little.proofs.PartLaws.{length-part, block-inside, lent, part-put}
-use Rattle.little.proofs.FieldLaws.{laws}
+use Rattle.little.proofs.PartLaws.{length-part, lent, part-put}
+use Rattle.little.proofs.FieldLaws.{long}
 use Rattle.blake3.specs.Tree.{hash}
-use Rattle.cauchy.specs.Code.{joined, recoveryBlock, codeBlock}
-use Rattle.cauchy.proofs.CodeLaws.{length-recovery}
+use Rattle.cauchy.specs.Code.{joined}
 use Rattle.sfc.specs.Bytes.{padded}
 use Rattle.sfc.specs.Limits.{shapeWrong}
 use Rattle.sfc.specs.Numbers.{Answered}
@@ -24,15 +22,11 @@ use Rattle.sfc.specs.declared.written.Written.{Written}
 use Rattle.sfc.specs.declared.written.Written.the-variants.{Bytes, Refused}
 use Rattle.sfc.proofs.MarkLaws.{RightShape, right-shape}
 use Rattle.sfc.proofs.FillLaws.{Front, front-start, front-length, front-end, front-le, front-lent, front-copy, front-is, front-first}
-use Rattle.sfc.proofs.LayoutLaws.{length-padded, length-indices}
-use Rattle.sfc.proofs.LengthLaws.{length-hash, length-chunk, length-joined}
+use Rattle.sfc.proofs.LayoutLaws.{length-indices}
+use Rattle.sfc.proofs.LengthLaws.{length-hash, length-chunk, length-joined, length-trailer, length-payload}
 use Rattle.sfc.proofs.RunOfChunks.{codeChunk}
-use Rattle.sfc.proofs.LimitLaws.{wanted-holds}
 use Rattle.sfc.proofs.RegionBack.{length-region, length-body}
 use Rattle.sfc.proofs.InputLaws.{RightInput, right-input}
-
-long : (width v : ℕ) → length (bytesOf width v) ≡ width
-long width v = laws width .long v
 
 regroup : (a b c d e : List ℕ) → a ++ b ++ c ++ d ++ e ≡ a ++ (b ++ c ++ d ++ e)
 regroup a b c d e = simp append-assoc
@@ -48,18 +42,6 @@ length-shape : (n m s flags p : ℕ) → length (shapeBytes n m s flags p) ≡ 1
 unfolding shapeBytes
 length-shape n m s flags p = simp (length-append, long)
 
-pub length-trailer : (digest : List ℕ) (time : ℕ) → length digest ≡ 32 → length (trailerBytes digest time) ≡ 64
-unfolding trailerBytes
-length-trailer digest time d = simp (length-append, long, d)
-
-length-code : (n m s : ℕ) (bs : List ℕ) (i : ℕ) → length bs ≡ n * s → s % 2 ≡ 0 → length (codeBlock n m s bs i) ≡ s
-unfolding codeBlock
-length-code n m s bs i l e = go (ltb i n) refl
-  where
-    go : (b : Bool) → ltb i n ≡ b → length (cond b (block s bs i) (recoveryBlock n m s bs (i - n))) ≡ s
-    go true t = length-part bs (i * s) s (omega (arith, block-inside s n i (ltb-true i n t)))
-    go false t = length-recovery n m s bs (i - n) e
-
 module _ (w : Input) (u : length (w .uuid) ≡ 16) (ok : inputWrong w ≡ false) where
   r : RightInput w
   r = right-input w u ok
@@ -67,19 +49,11 @@ module _ (w : Input) (u : length (w .uuid) ≡ 16) (ok : inputWrong w ≡ false)
   shape : RightShape (size w) (blocks w) (w .m) (w .s)
   shape = right-shape (size w) (blocks w) (w .m) (w .s) (r .shape)
 
-  pub length-data : length (dataOf w) ≡ blocks w * w .s
-  unfolding dataOf
-  length-data = length-padded (blocks w * w .s) (w .content) (wanted-holds (size w) (w .s) (omega (arith, shape .s-least)) .1)
-
-  pub length-payload : (i : ℕ) → length (payload w i) ≡ w .s
-  unfolding payload
-  length-payload i = length-code (blocks w) (w .m) (w .s) (dataOf w) i length-data (shape .s-even)
-
   pub length-written : (i : ℕ) → length (chunk w i) ≡ 84 + w .s
   unfolding chunk
-  length-written i = length-chunk (w .uuid) (blocks w) (w .m) (w .s) i (payload w i) u ∙ ap (λ (k : ℕ). 84 + k) (length-payload i)
+  length-written i = length-chunk (w .uuid) (blocks w) (w .m) (w .s) i (payload w i) u ∙ ap (λ (k : ℕ). 84 + k) (length-payload w (r .shape) i)
 
-  length-chunks : length (joined (chunk w) 0 (blocks w + w .m)) ≡ (blocks w + w .m) * (84 + w .s)
+  pub length-chunks : length (joined (chunk w) 0 (blocks w + w .m)) ≡ (blocks w + w .m) * (84 + w .s)
   length-chunks = length-joined (chunk w) 0 (blocks w + w .m) (84 + w .s) (λ i h. length-written (0 + i))
 
   -- a file has 76 bytes, its region's H, and 84 + S for each of its N + M chunks

@@ -1,28 +1,24 @@
 -- What a turn of the loops over the data blocks finds, whether it hashes or copies: the block from where it lies, cut where
 -- the content ends. Assumes nothing.
-use Prim.Native.Nat.{ℕ, zero, suc, _+_, _-_, _*_, _/_, _%_, _^_, _<_, _≤_}
+use Prim.Native.Nat.{ℕ, zero, suc, _+_, _-_, _*_, _^_, _<_, _≤_}
 use mathlib.Core.Path.{_≡_, refl, sym, _∙_, ap, ap₂}
 use mathlib.Core.Logic.{_⊎_, inl, inr, ⊎-elim}
-use mathlib.Core.Bool.{Bool, true, false, cond}
-use mathlib.Core.List.{List, [], _∷_, _++_, append-assoc, append-nil}
+use mathlib.Core.List.{List, [], _∷_, _++_, append-nil}
 use native.Mathlib.Omega.{arith}
 use native.Mathlib.Numerals.{add-one}
 use native.Mathlib.Nat.{mul-le-mul-right}
-use borrow.Author.Tests.{eq-eqb}
-use lib.Dec.{eqb}
-use lib.ListN.{length, getD, take, drop, length-append, take-append-drop, drop-of-length-le}
-use lib.Seq.{take-all, take-length, take-take, getD-take, length-take-le, take-append-seam, take-append-add, drop-append-seam, drop-append-add, drop-drop}
+use lib.ListN.{length, getD, take, drop}
+use lib.Seq.{take-all, take-take, getD-take, length-take-le}
 use Rattle.little.specs.Parts.{part, put, block}
-use Rattle.little.proofs.PartLaws.{below-or, lent, length-part, length-put, block-inside}
+use Rattle.little.proofs.PartLaws.{below-or, lent, length-part, length-put, block-inside, put-none}
 use Rattle.blake3.specs.Tree.{hash}
 use Rattle.blake3.specs.Running.{withBytes, fresh, finished}
 use Rattle.blake3.specs.declared.running.Running.{Running}
 use Rattle.blake3.specs.declared.running.Finished.{Finished}
 use Rattle.blake3.proofs.RunningLaws.{with-both}
 use Rattle.blake3.proofs.AnyCut.{fed-bytes}
-use Rattle.cauchy.specs.Code.{joined, wordBytes}
-use Rattle.cauchy.specs.Decode.{held, missing, missingData, rank, foundWords, decode, decoded}
-use Rattle.cauchy.proofs.BlockLaws.{length-wordBytes}
+use Rattle.cauchy.specs.Code.{joined}
+use Rattle.cauchy.specs.Decode.{held, missing, missingData, rank, decode, decoded}
 use Rattle.cauchy.proofs.Known.{length-held, held-one, held-none, held-take, missing-at}
 use Rattle.cauchy.proofs.ListLaws.{missing-more, missing-same}
 use Rattle.sfc.proofs.HeaderLaws.{copied}
@@ -61,7 +57,7 @@ unfolding rank
 rank-within n marks j h = ap (λ (x : List ℕ). length (missing 0 x)) (ap held (sym (take-take j n marks h)) ∙ held-take j (take n marks))
 
 -- a missing block stands in the list of them at the place that its rank says
-pub rank-place : (n : ℕ) (marks : List ℕ) (j : ℕ) → n ≤ length marks → j < n → (getD marks j 0 ≡ 1 → ⊥)
+rank-place : (n : ℕ) (marks : List ℕ) (j : ℕ) → n ≤ length marks → j < n → (getD marks j 0 ≡ 1 → ⊥)
     → (getD (missingData n marks) (rank j marks) 0 ≡ j) × (rank j marks < length (missingData n marks))
 rank-place n marks j hn hj e =
     let z : getD (held (take n marks)) j 0 ≡ 0 = held-none (take n marks) j (λ q. e (sym (getD-take n marks j 0 hj) ∙ q)) in
@@ -144,6 +140,17 @@ copied-in xs src ys at count h l e =
     ap (λ (x : List ℕ). take at xs ++ (x ++ drop (at + count - at) (drop at xs))) (e ∙ copied src (part xs at (at + count - at)) (cut-long xs at count h ∙ sym l))
     ∙ lent xs src at (at + count - at) (l ∙ sym c)
 
+-- a missing data block lies in scratch at the place of its rank
+module _ (n m s : ℕ) (marks store scratch : List ℕ) (w : Restored n m s marks store scratch) (j : ℕ) (h : j < n) (lost : getD marks j 0 ≡ 1 → ⊥) (row : ℕ) (row-is : row ≡ rank j marks) where
+  at-row : (getD (missingData n marks) row 0 ≡ j) × (row < length (missingData n marks))
+  at-row = rw row-is (rank-place n marks j (omega (arith, w .marks-long)) h lost)
+
+  pub row-in : row * s + s ≤ length scratch
+  row-in = omega (arith, w .room, block-inside s (length (missingData n marks)) row (at-row .1))
+
+  pub row-block : block s scratch row ≡ decode n m s marks store j
+  row-block = w .found row (at-row .1) ∙ ap (λ (i : ℕ). decode n m s marks store i) (at-row .0)
+
 pub block-small : (size n s : ℕ) → Cut size n s → (j : ℕ) → j < n → j * s + s ≤ 2 ^ 32
 block-small size n s w j h = omega (arith, w .small, block-inside s n j h)
 
@@ -195,11 +202,8 @@ module _ (size n m s : ℕ) (marks store scratch : List ℕ) (w : Cut size n s �
   held-part e = cut-block store j s count count-most ∙ ap (take count) (sym (decode-held n m s marks store j e))
 
   module _ (lost : getD marks j 0 ≡ 1 → ⊥) (row : ℕ) (row-is : row ≡ rank j marks) where
-    at-row : (getD (missingData n marks) row 0 ≡ j) × (row < length (missingData n marks))
-    at-row = rw row-is (rank-place n marks j (omega (arith, w .1 .marks-long)) h lost)
-
     pub in-scratch : row * s + count ≤ length scratch
-    in-scratch = omega (arith, w .1 .room, block-inside s (length (missingData n marks)) row (at-row .1), count-most)
+    in-scratch = omega (arith, row-in n m s marks store scratch (w .1) j h lost row row-is, count-most)
 
     pub lost-long : length (part scratch (row * s) (row * s + count - row * s)) ≡ count
     lost-long = cut-long scratch (row * s) count in-scratch
@@ -207,7 +211,7 @@ module _ (size n m s : ℕ) (marks store scratch : List ℕ) (w : Cut size n s �
     pub lost-part : part scratch (row * s) (row * s + count - row * s) ≡ take count (decode n m s marks store j)
     lost-part =
         cut-block scratch row s count count-most
-        ∙ ap (take count) (w .1 .found row (at-row .1) ∙ ap (λ (i : ℕ). decode n m s marks store i) (at-row .0))
+        ∙ ap (take count) (row-block n m s marks store scratch (w .1) j h lost row row-is)
 
 -- a part is no longer than was asked for
 pub length-cut : (xs : List ℕ) (at k : ℕ) → length (part xs at k) ≤ k
@@ -256,9 +260,6 @@ feeding-end size n m s marks store state row j h small f =
     ∙ ap (λ (r : Finished). r .hash) (fed-bytes (take size (decoded n m s marks store)) .ends (omega (arith, length-take-most size (decoded n m s marks store))))
 
 -- ---- copying: what is still to be copied, put into the output, gives the promised one
-
-pub put-none : (xs : List ℕ) (at : ℕ) → put xs at [] ≡ xs
-put-none xs at = take-append-drop at xs
 
 pub record Copying (size n m s : ℕ) (marks store out₀ out : List ℕ) (row j : ℕ) : Type 0 where
   pub to : j ≤ n

@@ -2,19 +2,20 @@
 -- with the header's hash. Assumes nothing.
 use Prim.Native.Nat.{ℕ, _<_, _≤_}
 use mathlib.Core.Path.{_≡_, refl, sym, ap, _∙_, subst}
-use mathlib.Core.Bool.{Bool, true, false, cond, not, _&&_}
-use mathlib.Core.List.{List, [], _∷_}
+use mathlib.Core.Bool.{Bool, true, false, cond, not, _&&_, and-false}
+use mathlib.Core.List.{List}
 use native.Mathlib.Omega.{arith}
 use borrow.Author.Tests.{eq-eqb, ne-eqb, le-ltb, lt-ltb, lt-leb, ltb-false, not-false}
 use lib.Dec.{ltb}
 use lib.ListN.{length, getD, take}
 use lib.Seq.{take-at}
 use Rattle.little.specs.Parts.{put}
+use Rattle.little.proofs.TestLaws.{or-false}
 use Rattle.blake3.specs.Tree.{hash}
 use Rattle.cauchy.specs.Code.{Held}
 use Rattle.cauchy.specs.Decode.{decoded}
 use Rattle.sfc.specs.Bytes.{same}
-use Rattle.sfc.specs.Numbers.{Check, checked, reasonOf}
+use Rattle.sfc.specs.Numbers.{Check, reasonOf}
 use Rattle.sfc.specs.Chunk.{place}
 use Rattle.sfc.specs.Marks.{isHeld, heldCount}
 use Rattle.sfc.specs.Session.{Session, blockOf, lentWrong}
@@ -26,8 +27,7 @@ use Rattle.sfc.specs.declared.places.BytePlace.{BytePlace}
 use Rattle.sfc.specs.declared.reason.Reason.{Reason}
 use Rattle.sfc.specs.declared.handout.HandedOut.{HandedOut}
 use Rattle.sfc.specs.declared.handout.HandedOut.the-variants.{Complete, Refused}
-use Rattle.sfc.proofs.CheckLaws.{Passed, all-passed, good-all}
-use Rattle.sfc.proofs.HeaderLaws.{or-false}
+use Rattle.sfc.proofs.CheckLaws.{all-passed, good-all, let-through}
 use Rattle.sfc.proofs.RunLaws.{same-eq}
 use Rattle.sfc.proofs.HeldLaws.{decode-held, length-content}
 
@@ -49,11 +49,7 @@ module _ (h : Head) (x : Session) (j : ℕ) (is-data : j < h .n) where
   pub gives-held : Held (x .marks) j → Gives h x j (blockOf h x j)
   gives-held o =
       subst (Gives h x j) (decode-held (h .n) (h .m) (h .s) (x .marks) (x .store) j o)
-      (gives (rw (eq-eqb (getD (x .marks) j 0) 1 o) (never (ltb (heldCount (x .marks)) (h .n)))))
-    where
-      never : (b : Bool) → (b && false) ≡ false
-      never true = refl
-      never false = refl
+      (gives (rw (eq-eqb (getD (x .marks) j 0) 1 o) (and-false (ltb (heldCount (x .marks)) (h .n)))))
 
   pub withholds : heldCount (x .marks) < h .n → ¬ (Held (x .marks) j) → Withholds h x j
   unfolding blockRequest
@@ -81,27 +77,28 @@ hands-out h x d v e l r =
 
 -- ---- complete
 
--- where the answer says complete no check refused
-let-through : (cs : List Check) (q p : BytePlace) → checked cs Refused (Complete q) ≡ Complete p → Passed cs × (q ≡ p)
-let-through [] q p e = (tt, let f : q ≡ p = cc in f)
-let-through ((true, k) ∷ cs) q p e = absurd (let z : _≡_ {A = ℕ} 0 1 = cc in omega arith)
-let-through ((false, k) ∷ cs) q p e = let t = let-through cs q p e in ((refl, t .0), t .1)
-
 pub lent-output : (b : Bool) (l : Lent) (out : List ℕ) → lentAfter b l out .output ≡ out
 unfolding lentAfter
 lent-output true l out = refl
 lent-output false l out = refl
+
+no-refusal : (r : Reason) (p : BytePlace) → _≡_ {A = HandedOut} (Refused r) (Complete p) → ⊥
+no-refusal r p e = let z : _≡_ {A = ℕ} 0 1 = cc in omega arith
+
+complete-one : (p q : BytePlace) → _≡_ {A = HandedOut} (Complete p) (Complete q) → p ≡ q
+complete-one p q e = cc
 
 pub complete-has-hash : (h : Head) (store marks : List ℕ) (l : Lent) (p : BytePlace) → handOut h store marks l .answer ≡ Complete p
     → (p ≡ place (h .size)) × (h .size ≤ length (l .output)) × (hash (take (h .size) (handOut h store marks l .lent .output)) ≡ h .hash)
 unfolding handOut
 complete-has-hash h store marks l p e =
     let cs : List Check = handOutChecks h store marks l in
-    let t = let-through cs (place (h .size)) p e in
+    let t = let-through Refused cs (Complete (place (h .size))) (Complete p) (λ r. no-refusal r p) e in
+    let q : place (h .size) ≡ p = complete-one (place (h .size)) p (t .1) in
     let w = lent-right h store marks l (t .0 .0) in
     let o : handOut h store marks l .lent .output ≡ put (l .output) 0 (contentOf h store marks) =
     lent-output _ l _ ∙ good-all (λ (r : Reason). l .output) cs (put (l .output) 0 (contentOf h store marks)) (all-passed cs (t .0)) in (
-      sym (t .1),
+      sym q,
       ltb-false (length (l .output)) (h .size) (t .0 .1 .0),
       ap (λ (b : List ℕ). hash (take (h .size) b)) o
           ∙ ap hash (take-at (contentOf h store marks) _ (h .size) (length-content h store marks w))

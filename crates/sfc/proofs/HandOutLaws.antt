@@ -1,16 +1,17 @@
 -- The hand-out: what is lent, what was rebuilt, and the answers. Assumes nothing.
-use Prim.Native.Nat.{ℕ, zero, suc, _+_, _-_, _*_, _/_, _%_, _^_, _<_, _≤_}
-use mathlib.Core.Path.{_≡_, refl, sym, _∙_, ap, subst}
-use mathlib.Core.Bool.{Bool, true, false, cond, not, _&&_, _||_}
-use mathlib.Core.List.{List, [], _∷_, _++_}
+use Prim.Native.Nat.{ℕ, _+_, _-_, _*_, _/_, _%_, _^_, _<_, _≤_}
+use mathlib.Core.Path.{_≡_, refl, sym, _∙_, ap}
+use mathlib.Core.Bool.{Bool, true, false, cond, not, _&&_, _||_, true≢false, false≢true, and-true, and-false}
+use mathlib.Core.List.{List, _++_}
 use native.Mathlib.Omega.{arith}
 use native.Mathlib.Nat.{mul-le-mul, mul-le-mul-right}
-use borrow.Author.Tests.{eq-eqb, ne-eqb, le-ltb, ltb-false, eqb-true, not-false}
+use borrow.Author.Tests.{eq-eqb, ne-eqb, le-ltb, ltb-false, eqb-true, not-false, not-true}
 use lib.Dec.{eqb, ltb, leb}
 use lib.ListN.{length, getD, take, drop, replicate}
 use lib.Seq.{length-take-le, take-length}
 use Rattle.little.specs.Parts.{part, put}
 use Rattle.little.proofs.PartLaws.{block-inside}
+use Rattle.little.proofs.TestLaws.{or-false}
 use Rattle.blake3.specs.Tree.{hash}
 use Rattle.cauchy.specs.Decode.{held, holding, missingData, rank, decode, decoded}
 use Rattle.cauchy.specs.Calls.{wrongShape, wrongMemory, Rebuilt, decodedScratch, rebuildAllSpec}
@@ -32,12 +33,11 @@ use Rattle.sfc.specs.declared.handout.HandedOut.{HandedOut}
 use Rattle.sfc.specs.declared.handout.HandedOut.the-variants.{Complete, Refused}
 use Rattle.sfc.specs.declared.prefix.Given.{Given}
 use Rattle.sfc.specs.declared.prefix.Given.the-variants.{Unverified, Refused as RefusedGiven}
-use Rattle.sfc.proofs.HeaderLaws.{or-false}
 use Rattle.sfc.proofs.LimitLaws.{wanted-holds}
 use Rattle.sfc.proofs.MarkLaws.{RightShape}
 use Rattle.sfc.proofs.SessionLaws.{RightLent, right-lent}
 use Rattle.sfc.proofs.HeldLaws.{held-holding, decode-held}
-use Rattle.sfc.proofs.GatherLaws.{rank-place, cut-long}
+use Rattle.sfc.proofs.GatherLaws.{row-in, row-block, cut-long}
 
 -- ---- 71
 
@@ -119,42 +119,23 @@ isDone Answer.Done = true
 isDone Answer.TooFew = false
 isDone Answer.BadShape = false
 
-is-false : (A : Type 0) → true ≡ false → A
-is-false A e = absurd (subst (λ (b : Bool). cond b Unit ⊥) e tt)
-
 -- ---- a test and its negation
 
-pub was-not : (b : Bool) → not b ≡ true → false ≡ b
-was-not true e = e
-was-not false e = refl
-
-pub was : (b : Bool) → not b ≡ false → true ≡ b
-was true e = refl
-was false e = e
-
 pub few-told : (r t : Bool) → not r ≡ true → r ≡ not t → t ≡ true
-few-told true t p e = is-false _ (sym p)
-few-told false true p e = refl
-few-told false false p e = is-false _ (sym e)
+few-told r t p e = not-false t (sym e ∙ not-true r p)
 
 pub enough-told : (r t : Bool) → not r ≡ false → r ≡ not t → t ≡ false
-enough-told true true p e = is-false _ e
-enough-told true false p e = refl
-enough-told false t p e = is-false _ p
-
-pub was-true : (r : Bool) → not r ≡ false → r ≡ true
-was-true true p = refl
-was-true false p = is-false _ p
+enough-told r t p e = not-true t (sym e ∙ not-false r p)
 
 -- ---- by the answer
 
 done-told : (t : Bool) (x few done : Rebuilt) → x ≡ cond t few done → few .answer ≡ Answer.TooFew → x .answer ≡ Answer.Done → (true ≡ not t) × (x .scratch ≡ done .scratch)
-done-told true x few done e f a = is-false _ (ap isDone (sym a ∙ ap (λ (y : Rebuilt). y .answer) e ∙ f))
+done-told true x few done e f a = absurd (true≢false (ap isDone (sym a ∙ ap (λ (y : Rebuilt). y .answer) e ∙ f)))
 done-told false x few done e f a = (refl, ap (λ (y : Rebuilt). y .scratch) e)
 
 other-told : (t : Bool) (x few done : Rebuilt) → x ≡ cond t few done → done .answer ≡ Answer.Done → isDone (x .answer) ≡ false → false ≡ not t
 other-told true x few done e d a = refl
-other-told false x few done e d a = is-false _ (sym (ap isDone (ap (λ (y : Rebuilt). y .answer) e ∙ d)) ∙ a)
+other-told false x few done e d a = absurd (true≢false (sym (ap isDone (ap (λ (y : Rebuilt). y .answer) e ∙ d)) ∙ a))
 
 -- where it could be done, scratch has the missing blocks
 pub restored : (n m s : ℕ) (store marks scratch numbers scratch′ : List ℕ) → Rebuildable n m s store marks scratch numbers → ltb (heldCount marks) n ≡ false
@@ -180,7 +161,7 @@ pub rebuilt-not : (n m s : ℕ) (store marks scratch numbers : List ℕ) (x : Re
     → x ≡ rebuildAllSpec n m s marks store scratch numbers → isDone (x .answer) ≡ false → length (x .scratch) ≡ length scratch
     → (false ≡ not (ltb (heldCount marks) n)) × (false ≡ true → Restored n m s marks store (x .scratch))
 rebuilt-not n m s store marks scratch numbers x r e a l =
-    (other-told (ltb (heldCount marks) n) x _ _ (e ∙ rebuilt-cases n m s store marks scratch numbers r) refl a, λ q. is-false _ (sym q))
+    (other-told (ltb (heldCount marks) n) x _ _ (e ∙ rebuilt-cases n m s store marks scratch numbers r) refl a, λ q. absurd (false≢true q))
 
 -- ---- the answers, past 71 and 52
 
@@ -207,7 +188,7 @@ pub given-not : (h : Head) (store marks out : List ℕ) → ltb (heldCount marks
     → r ≡ same (hash (take (h .size) (decoded (h .n) (h .m) (h .s) marks store))) (h .hash)
     → after ≡ cond r (put out 0 (take (h .size) (decoded (h .n) (h .m) (h .s) marks store))) out
     → _≡_ {A = Answered HandedOut} (record { answer = Refused ContentHash; output = after }) (contentGiven h store marks out)
-given-not h store marks out e true after p f g = is-false _ (sym p)
+given-not h store marks out e true after p f g = absurd (false≢true p)
 given-not h store marks out e false after p f g = rw g (given-differs h store marks out e (sym f))
 
 pub given-all : (h : Head) (store marks out : List ℕ) → ltb (heldCount marks) (h .n) ≡ false → (r : Bool) (after : List ℕ) → not r ≡ false
@@ -215,7 +196,7 @@ pub given-all : (h : Head) (store marks out : List ℕ) → ltb (heldCount marks
     → after ≡ cond r (put out 0 (take (h .size) (decoded (h .n) (h .m) (h .s) marks store))) out
     → _≡_ {A = Answered HandedOut} (record { answer = Complete (place (h .size)); output = after }) (contentGiven h store marks out)
 given-all h store marks out e true after p f g = rw g (given-complete h store marks out e (sym f))
-given-all h store marks out e false after p f g = is-false _ p
+given-all h store marks out e false after p f g = absurd (true≢false p)
 
 pub size-small : (size n m s : ℕ) → RightShape size n m s → size < 2 ^ 32
 size-small size n m s r = omega (arith, cut-right size n m s r .most, r .small, mul-le-mul-right {m = n} {n = n + m} s (omega arith))
@@ -276,31 +257,23 @@ module _ (h : Head) (store marks : List ℕ) (j : ℕ) (l : Lent) (right : rebui
   pub blocked-few : (r : Bool) → not r ≡ true → r ≡ not (ltb (heldCount marks) (h .n) && not (isHeld (getD marks j 0)))
       → output ≡ cond r (put (l .output) 0 (decode (h .n) (h .m) (h .s) marks store j)) (l .output)
       → _≡_ {A = Rebuilding Given} (record { answer = RefusedGiven Few; lent = record { scratch = scratch; numbers = numbers; output = output } }) (blockRequest h store marks j l)
-  blocked-few true p e g = is-false _ (sym p)
+  blocked-few true p e g = absurd (false≢true p)
   blocked-few false p e g = with-test true (few-told false _ p e) g
 
   pub blocked-given : (r : Bool) → not r ≡ false → r ≡ not (ltb (heldCount marks) (h .n) && not (isHeld (getD marks j 0)))
       → output ≡ cond r (put (l .output) 0 (decode (h .n) (h .m) (h .s) marks store j)) (l .output)
       → _≡_ {A = Rebuilding Given} (record { answer = Unverified (number j) (place (j * h .s)); lent = record { scratch = scratch; numbers = numbers; output = output } }) (blockRequest h store marks j l)
   blocked-given true p e g = with-test false (enough-told true _ p e) g
-  blocked-given false p e g = is-false _ p
+  blocked-given false p e g = absurd (true≢false p)
 
 -- ---- one block, from where it lies
 
 -- with fewer than N held only a held one can be had
 pub had-held : (marks : List ℕ) (n j : ℕ) → getD marks j 0 ≡ 1 → true ≡ not (ltb (heldCount marks) n && not (isHeld (getD marks j 0)))
-had-held marks n j e = rw (eq-eqb (getD marks j 0) 1 e) (both-false (ltb (heldCount marks) n))
-  where
-    both-false : (b : Bool) → true ≡ not (b && false)
-    both-false true = refl
-    both-false false = refl
+had-held marks n j e = rw (eq-eqb (getD marks j 0) 1 e) (ap not (sym (and-false (ltb (heldCount marks) n))))
 
 pub had-lost : (marks : List ℕ) (n j : ℕ) (r : Bool) → (getD marks j 0 ≡ 1 → ⊥) → r ≡ not (ltb (heldCount marks) n) → r ≡ not (ltb (heldCount marks) n && not (isHeld (getD marks j 0)))
 had-lost marks n j r e f = rw (ne-eqb (getD marks j 0) 1 e) (f ∙ ap not (sym (and-true (ltb (heldCount marks) n))))
-  where
-    and-true : (b : Bool) → (b && true) ≡ b
-    and-true true = refl
-    and-true false = refl
 
 -- how many data blocks before block j are missing, by the held ones
 pub rank-rest : (marks : List ℕ) (j : ℕ) → j ≤ length marks → (heldCount (take j marks) ≤ j) × (j - heldCount (take j marks) ≡ rank j marks)
@@ -331,11 +304,8 @@ module _ (n m s : ℕ) (store marks scratch numbers : List ℕ) (able : Rebuilda
       (had-held marks n j e, copied-front out (part store (j * s) (j * s + s - j * s)) ys s room l f ∙ ap (put out 0) (ap (part store (j * s)) w ∙ sym (decode-held n m s marks store j e)))
 
   module _ (after : List ℕ) (restored : Restored n m s marks store after) (lost : getD marks j 0 ≡ 1 → ⊥) (row : ℕ) (row-is : row ≡ rank j marks) where
-    at-row : (getD (missingData n marks) row 0 ≡ j) × (row < length (missingData n marks))
-    at-row = rw row-is (rank-place n marks j (omega (arith, able .marks-long)) h lost)
-
     pub lost-in : row * s + s ≤ length after
-    lost-in = omega (arith, restored .room, block-inside s (length (missingData n marks)) row (at-row .1))
+    lost-in = row-in n m s marks store after restored j h lost row row-is
 
     pub lost-long : length (part after (row * s) (row * s + s - row * s)) ≡ s
     lost-long = cut-long after (row * s) s lost-in
@@ -346,4 +316,4 @@ module _ (n m s : ℕ) (store marks scratch numbers : List ℕ) (able : Rebuilda
     lost-given out ys room f =
         let w : row * s + s - row * s ≡ s = omega arith in
         copied-front out (part after (row * s) (row * s + s - row * s)) ys s room lost-long f
-        ∙ ap (put out 0) (ap (part after (row * s)) w ∙ restored .found row (at-row .1) ∙ ap (λ (i : ℕ). decode n m s marks store i) (at-row .0))
+        ∙ ap (put out 0) (ap (part after (row * s)) w ∙ row-block n m s marks store after restored j h lost row row-is)

@@ -9,7 +9,7 @@ use borrow.Author.Tests.{le-ltb}
 use lib.ListN.{length, drop, length-append}
 use lib.Seq.{drop-at}
 use Rattle.little.specs.Fields.{le, bytesOf}
-use Rattle.little.proofs.FieldLaws.{laws}
+use Rattle.little.proofs.FieldLaws.{long}
 use Rattle.blake3.specs.Tree.{hash}
 use Rattle.sfc.specs.Bytes.{standsAt, zeros}
 use Rattle.sfc.specs.Numbers.{checked}
@@ -17,7 +17,7 @@ use Rattle.sfc.specs.Limits.{lengthWrong}
 use Rattle.sfc.specs.Header.{trailerMagic, lengthField, regionOf, trailerOf, headOf, startChecks, regionChecks, trailerChecks, refusedHeader, acceptedHeader, readHeader}
 use Rattle.sfc.specs.Writer.{Input, body, region, preamble, trailerBytes, trailer, headFor}
 use Rattle.sfc.proofs.CheckLaws.{Passed, all-passed, passes-good, good-then, good-all}
-use Rattle.sfc.proofs.LengthLaws.{length-hash}
+use Rattle.sfc.proofs.LengthLaws.{length-hash, length-trailer}
 use Rattle.sfc.proofs.RegionBack.{next, piece, number-at, length-region, length-body, head-back}
 use Rattle.sfc.proofs.InputLaws.{RightInput}
 use Rattle.sfc.proofs.PlaceLaws.{stands-there}
@@ -38,11 +38,7 @@ module _ (digest : List ℕ) (time : ℕ) (l : length digest ≡ 32) where
   from-time = next (trailerBytes digest time) digest (bytesOf 8 time ++ zeros 16) 8 32 from-digest l
 
   from-zeros : drop 48 (trailerBytes digest time) ≡ zeros 16 ++ []
-  from-zeros = next (trailerBytes digest time) (bytesOf 8 time) (zeros 16) 40 8 from-time (laws 8 .long time)
-
-  length-trailer : length (trailerBytes digest time) ≡ 64
-  unfolding trailerBytes
-  length-trailer = simp (length-append, l, laws 8 .long time)
+  from-zeros = next (trailerBytes digest time) (bytesOf 8 time) (zeros 16) 40 8 from-time (long 8 time)
 
 module _ (w : Input) where
   pub trailer-long : length (trailer w) ≡ 64
@@ -75,7 +71,7 @@ module _ (w : Input) (u : length (w .uuid) ≡ 16) (r : RightInput w) (between :
   from-region : drop 8 given ≡ region w ++ (between ++ trailer w)
   from-region = next given preamble (region w ++ (between ++ trailer w)) 0 8 from-preamble preamble-long
 
-  field-back : lengthField given ≡ length (body w)
+  pub field-back : lengthField given ≡ length (body w)
   unfolding region
   field-back =
       number-at given (body w ++ (between ++ trailer w)) 8 4 (length (body w))

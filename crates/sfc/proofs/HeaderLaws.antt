@@ -1,16 +1,17 @@
 -- What the proofs of the header's functions cite: the region's lists, the fields copied out, the whole. Assumes nothing.
-use Prim.Native.Nat.{ℕ, zero, suc, _+_, _-_, _*_, _<_, _≤_}
+use Prim.Native.Nat.{ℕ, zero, suc, _+_, _-_, _*_, _≤_}
 use mathlib.Core.Path.{_≡_, refl, sym, ap, ap₂, _∙_}
 use mathlib.Core.Bool.{Bool, true, false, cond, not, _||_}
 use mathlib.Core.List.{List, [], _∷_, _++_, append-nil}
 use native.Mathlib.Omega.{arith}
 use borrow.Author.Tests.{ltb-false}
 use lib.Dec.{ltb}
-use lib.ListN.{length, take, drop, replicate, drop-of-length-le, length-replicate}
+use lib.ListN.{length, take, drop, drop-of-length-le}
 use lib.Seq.{take-all, take-take}
 use Rattle.little.specs.Parts.{part}
 use Rattle.little.specs.Fields.{le}
 use Rattle.little.proofs.PartLaws.{length-part, part-rest}
+use Rattle.little.proofs.TestLaws.{or-false}
 use Rattle.sfc.specs.Bytes.{zeros, padded, beforeZero}
 use Rattle.sfc.specs.Numbers.{verdict, checked}
 use Rattle.sfc.specs.Limits.{lengthWrong}
@@ -23,10 +24,6 @@ use Rattle.sfc.specs.declared.reason.Checked.the-variants.{Good, Refused
 use Rattle.sfc.specs.declared.header.HeaderRead.{HeaderRead}
 use Rattle.sfc.proofs.TextLaws.{name-fits}
 use Rattle.sfc.proofs.CheckLaws.{passed, refused-then, good-then}
-
-pub or-false : (a b : Bool) → (a || b) ≡ false → (a ≡ false) × (b ≡ false)
-or-false false b e = (refl, e)
-or-false true b e = absurd (let z : _≡_ {A = ℕ} 0 1 = cc in omega arith)
 
 -- ---- the region's lists
 

@@ -1,26 +1,27 @@
 -- Histories: store and marks follow from the chunks alone, in any order, and foreign chunks leave only their tally. Assumes
 -- nothing.
 use Prim.Native.Nat.{ℕ, zero, suc, _+_, _-_, _*_, _<_, _≤_}
-use mathlib.Core.Path.{_≡_, refl, sym, ap, ap₂, _∙_, subst}
+use mathlib.Core.Path.{_≡_, refl, sym, ap, ap₂, _∙_}
 use mathlib.Core.List.{List, [], _∷_, _++_, List·Permᴰ, List·Permᴰ·nil, List·Permᴰ·cons, List·Permᴰ·swap, List·Permᴰ·trans}
-use mathlib.Core.Bool.{Bool, true, false, cond, not, _&&_, _||_}
+use mathlib.Core.Bool.{Bool, true, false, cond, not, _||_}
 use native.Mathlib.Decide.{ℕ-discrete}
 use native.Mathlib.Omega.{arith}
-use borrow.Author.Tests.{lt-ltb, eq-eqb, ne-eqb, lt-leb, ltb-true}
-use lib.Dec.{eqb, ltb, leb}
-use lib.ListN.{length, getD, set, length-set, length-append}
-use lib.Seq.{set-getD, getD-set-same, getD-set-other, set-comm}
-use Rattle.little.specs.Parts.{block, putBlock}
-use Rattle.little.proofs.PartLaws.{length-part, length-block, put-same}
+use borrow.Author.Tests.{eq-eqb, lt-leb}
+use lib.Dec.{eqb}
+use lib.ListN.{length, getD, set, length-append}
+use lib.Seq.{set-getD, getD-set-other, set-comm}
+use Rattle.little.specs.Parts.{putBlock}
+use Rattle.little.proofs.PartLaws.{length-part, put-same}
+use Rattle.little.proofs.TestLaws.{or-false}
 use Rattle.sfc.specs.Bytes.{zeros, same}
-use Rattle.sfc.specs.Numbers.{Check, verdict, numberOf}
+use Rattle.sfc.specs.Numbers.{verdict, numberOf}
 use Rattle.sfc.specs.Limits.{shapeWrong}
 use Rattle.sfc.specs.Marks.{marksFit, marksWrong}
 use Rattle.sfc.specs.Chunk.{indexOf, payloadLength, payloadOf, chunkChecks, number, place}
 use Rattle.sfc.specs.Tallies.{noTallies, sum, total, tallyOf, tallyFull, countedRefusal, counted}
-use Rattle.sfc.specs.Session.{Session, mark, blockOf, lentWrong, sessionWrong, verdictOf, withBlock, settled, tallied, after, offered}
+use Rattle.sfc.specs.Session.{Session, mark, blockOf, lentWrong, sessionWrong, verdictOf, withBlock, settled, tallied, after}
 use Rattle.sfc.specs.Steps.{Welcome}
-use Rattle.sfc.specs.History.{afterAll, verdicts}
+use Rattle.sfc.specs.History.{afterAll}
 use Rattle.sfc.specs.SessionTheorems.{SameKept, ShortOf43, ManyOffers}
 use Rattle.sfc.specs.declared.header.Head.{Head}
 use Rattle.sfc.specs.declared.tallies.Tallies.{Tallies}
@@ -30,11 +31,9 @@ use Rattle.sfc.specs.declared.reason.Checked.{Checked}
 use Rattle.sfc.specs.declared.reason.Checked.the-variants.{Good, Refused as Wrong}
 use Rattle.sfc.specs.declared.session.Verdict.{Verdict}
 use Rattle.sfc.specs.declared.session.Verdict.the-variants.{Fresh, Repeat, Refused}
-use Rattle.sfc.proofs.RunLaws.{and-true, true≢false}
-use Rattle.sfc.proofs.HeaderLaws.{or-false}
-use Rattle.sfc.proofs.SessionLaws.{RightLent, right-lent, Facts, facts, outcome, after-by, offered-session, lent-refused, chunk-refused, verdict-fresh, verdict-repeat, verdict-conflict, verdict-barred}
+use Rattle.sfc.proofs.SessionLaws.{right-lent, Facts, facts, after-by, offered-session, lent-refused, chunk-refused, verdict-fresh, verdict-repeat, verdict-conflict, verdict-barred}
 use Rattle.sfc.proofs.MarkLaws.{fit-at, fit-all}
-use Rattle.sfc.proofs.BlockSteps.{done, done-absent, done-copy, done-differs, done-barred, Kept, Sound, doneAt, laidAt, laid-sound, laid-swap}
+use Rattle.sfc.proofs.BlockSteps.{done, done-absent, done-copy, done-differs, done-barred, Kept, Sound, laidAt, laid-sound, laid-swap}
 
 -- ---- what is lent rightly, as facts
 

@@ -1,7 +1,7 @@
 -- Which inputs 60 lets through: the tests of the region that the writer would make come to tests of what the caller gave. Assumes nothing.
 use Prim.Native.Nat.{ℕ, zero, suc, _+_, _*_, _^_, _<_, _≤_}
 use mathlib.Core.Path.{_≡_, refl, sym, ap, ap₂, _∙_}
-use mathlib.Core.Bool.{Bool, true, false, not, _&&_, _||_}
+use mathlib.Core.Bool.{Bool, true, false, not, _&&_, _||_, false≢true, or-true}
 use mathlib.Core.List.{List, [], _∷_, _++_}
 use mathlib.Core.Logic.{⊎-elim}
 use native.Mathlib.Omega.{arith}
@@ -9,20 +9,15 @@ use borrow.Author.Tests.{ltb-false, lt-ltb, le-ltb, lt-leb, ne-eqb, eq-eqb, eqb-
 use lib.Dec.{eqb, ltb}
 use lib.ListN.{length, getD}
 use Rattle.little.proofs.PartLaws.{below-or}
+use Rattle.little.proofs.TestLaws.{or-false}
 use Rattle.sfc.specs.Bytes.{any}
 use Rattle.sfc.specs.Numbers.{passes}
 use Rattle.sfc.specs.Limits.{unlawful, aboveHouse, shapeWrong, lengthWrong}
 use Rattle.sfc.specs.Extension.{extensionWrong}
 use Rattle.sfc.specs.Header.{mispaired, flagsBarred, distinctBelow, priorityWrong, numberChecks, listChecks, regionChecks}
-use Rattle.sfc.specs.Writer.{Input, size, blocks, erasureFor, body, region, outgrows, outgrown, nameWrong, hasSplit, inputWrong}
+use Rattle.sfc.specs.Writer.{Input, size, blocks, erasureFor, body, region, outgrows, outgrown, nameWrong, hasReserved, inputWrong}
 use Rattle.sfc.specs.declared.header.Head.{Head}
-use Rattle.sfc.proofs.HeaderLaws.{or-false}
-use Rattle.sfc.proofs.RunLaws.{true≢false}
 use Rattle.sfc.proofs.RegionBack.{Small, small, not-outgrown, length-region, length-body, fields-behind, priority-back, head-back}
-
-or-true : (a : Bool) → (a || true) ≡ true
-or-true true = refl
-or-true false = refl
 
 -- ---- the identifiers are right by their making
 
@@ -64,7 +59,7 @@ pub record RightInput (w : Input) : Type 0 where
   pub fitting : Small w
   pub name-short : length (w .name) ≤ 255
   pub name-whole : any (eqb 0) (w .name) ≡ false
-  pub not-split : hasSplit (w .fields) ≡ false
+  pub not-reserved : hasReserved (w .fields) ≡ false
   pub body-short : length (body w) ≤ 65536
   pub shape : shapeWrong (size w) (blocks w) (w .m) (w .s) ≡ false
   pub flags-right : flagsBarred (w .flags) ≡ false
@@ -74,7 +69,7 @@ pub record RightInput (w : Input) : Type 0 where
   pub checks-pass : passes (regionChecks (region w)) ≡ true
 
 not-and : (a b : Bool) → (not a && b) ≡ true → (a ≡ false) × (b ≡ true)
-not-and true b e = true≢false (sym e)
+not-and true b e = absurd (false≢true e)
 not-and false b e = (refl, e)
 
 pub right-input : (w : Input) → length (w .uuid) ≡ 16 → inputWrong w ≡ false → RightInput w
@@ -82,7 +77,7 @@ unfolding inputWrong nameWrong lengthWrong shapeWrong
 right-input w u e =
     let e₅ = or-false _ (not (passes (regionChecks (region w)))) e in
     let e₄ = or-false _ (ltb (length (body w)) 331 || ltb 65536 (length (body w))) (e₅ .0) in
-    let e₃ = or-false _ (hasSplit (w .fields)) (e₄ .0) in
+    let e₃ = or-false _ (hasReserved (w .fields)) (e₄ .0) in
     let e₂ = or-false _ (ltb 255 (length (w .name)) || any (eqb 0) (w .name)) (e₃ .0) in
     let e₁ = or-false (eqb (w .s) 0) (outgrown w) (e₂ .0) in
     let nm = or-false (ltb 255 (length (w .name))) (any (eqb 0) (w .name)) (e₂ .1) in
@@ -101,7 +96,7 @@ right-input w u e =
       fitting = sm;
       name-short = short;
       name-whole = nm .1;
-      not-split = e₃ .1;
+      not-reserved = e₃ .1;
       body-short = ltb-false 65536 (length (body w)) (or-false (ltb (length (body w)) 331) (ltb 65536 (length (body w))) (e₄ .1) .1);
       shape = ap₂ _||_ (t₁ .0) (t₂ .0);
       flags-right = t₃ .0;
@@ -155,7 +150,7 @@ none-outgrows (x ∷ xs) h = rw (lt-leb (256 ^ 4) x (h 0)) (none-outgrows xs (λ
 module _ (w : Input) (t : Typed w) (some : w .s ≡ 0 → ⊥) (few : blocks w ≤ 1024) (listed : length (w .priority) ≤ blocks w) where
   abbrev left : Bool
   left =
-      hasSplit (w .fields) || shapeWrong (size w) (blocks w) (w .m) (w .s) || flagsBarred (w .flags) || not (distinctBelow (blocks w) (w .priority))
+      hasReserved (w .fields) || shapeWrong (size w) (blocks w) (w .m) (w .s) || flagsBarred (w .flags) || not (distinctBelow (blocks w) (w .priority))
       || extensionWrong (blocks w + w .m) (w .flags) (w .fields)
 
   regroup : (h a b f d x : Bool) → (h || false || not (not a && (not b && (not f && (not (false || d) && (not x && true)))))) ≡ (h || (a || b) || f || d || x)
@@ -195,7 +190,7 @@ module _ (w : Input) (t : Typed w) (some : w .s ≡ 0 → ⊥) (few : blocks w �
         region-tests w (t .uuid-long) sm short (nm .1),
         le-ltb (blocks w) (length (w .priority)) listed,
       )
-      (regroup (hasSplit (w .fields)) (unlawful (size w) (blocks w) (w .m) (w .s)) (aboveHouse (blocks w) (w .m) (w .s)) (flagsBarred (w .flags))
+      (regroup (hasReserved (w .fields)) (unlawful (size w) (blocks w) (w .m) (w .s)) (aboveHouse (blocks w) (w .m) (w .s)) (flagsBarred (w .flags))
       (not (distinctBelow (blocks w) (w .priority))) (extensionWrong (blocks w + w .m) (w .flags) (w .fields)))
 
   wrong-name : nameWrong (w .name) ≡ true → inputWrong w ≡ true
@@ -205,21 +200,21 @@ module _ (w : Input) (t : Typed w) (some : w .s ≡ 0 → ⊥) (few : blocks w �
   wrong-length : 65536 < length (body w) → inputWrong w ≡ true
   unfolding inputWrong lengthWrong
   wrong-length h =
-      rw (lt-ltb 65536 (length (body w)) h, or-true (ltb (length (body w)) 331), or-true (eqb (w .s) 0 || outgrown w || nameWrong (w .name) || hasSplit (w .fields)))
+      rw (lt-ltb 65536 (length (body w)) h, or-true (ltb (length (body w)) 331), or-true (eqb (w .s) 0 || outgrown w || nameWrong (w .name) || hasReserved (w .fields)))
 
   -- all the tests that the code is left with, in its order
   pub tests-are : (h : ℕ) → h ≡ 331 + 4 * length (w .priority) + length (w .fields)
-      → (nameWrong (w .name) || ltb 65536 h || hasSplit (w .fields) || shapeWrong (size w) (blocks w) (w .m) (w .s) || flagsBarred (w .flags)
+      → (nameWrong (w .name) || ltb 65536 h || hasReserved (w .fields) || shapeWrong (size w) (blocks w) (w .m) (w .s) || flagsBarred (w .flags)
       || not (distinctBelow (blocks w) (w .priority)) || extensionWrong (blocks w + w .m) (w .flags) (w .fields)) ≡ inputWrong w
   tests-are h eh = by-name (nameWrong (w .name)) refl
     where
-      by-length : nameWrong (w .name) ≡ false → length (body w) ≡ h → (ltb 65536 h || hasSplit (w .fields) || shapeWrong (size w) (blocks w) (w .m) (w .s) || flagsBarred (w .flags)
+      by-length : nameWrong (w .name) ≡ false → length (body w) ≡ h → (ltb 65536 h || hasReserved (w .fields) || shapeWrong (size w) (blocks w) (w .m) (w .s) || flagsBarred (w .flags)
           || not (distinctBelow (blocks w) (w .priority)) || extensionWrong (blocks w + w .m) (w .flags) (w .fields)) ≡ inputWrong w
       by-length nw lb =
           ⊎-elim (λ (g : 65536 < h). rw (lt-ltb 65536 h g) (sym (wrong-length (omega arith))))
           (λ (g : h ≤ 65536). rw (le-ltb 65536 h g) (sym (by-tests nw (omega arith)))) (below-or 65536 h)
 
-      by-name : (b : Bool) → nameWrong (w .name) ≡ b → (b || ltb 65536 h || hasSplit (w .fields) || shapeWrong (size w) (blocks w) (w .m) (w .s) || flagsBarred (w .flags)
+      by-name : (b : Bool) → nameWrong (w .name) ≡ b → (b || ltb 65536 h || hasReserved (w .fields) || shapeWrong (size w) (blocks w) (w .m) (w .s) || flagsBarred (w .flags)
           || not (distinctBelow (blocks w) (w .priority)) || extensionWrong (blocks w + w .m) (w .flags) (w .fields)) ≡ inputWrong w
       by-name true e = sym (wrong-name e)
       by-name false e = by-length e (name-length e)
@@ -229,7 +224,7 @@ module _ (w : Input) (t : Typed w) (some : w .s ≡ 0 → ⊥) (few : blocks w �
 
   -- the same as the code has it, one equation for each call
   pub tests-answered : (n h : ℕ) → n ≡ blocks w → h ≡ 331 + 4 * length (w .priority) + length (w .fields) → (nm sp sh fl di fi : Bool)
-      → nm ≡ nameWrong (w .name) → sp ≡ hasSplit (w .fields) → sh ≡ shapeWrong (size w) n (w .m) (w .s) → fl ≡ flagsBarred (w .flags)
+      → nm ≡ nameWrong (w .name) → sp ≡ hasReserved (w .fields) → sh ≡ shapeWrong (size w) n (w .m) (w .s) → fl ≡ flagsBarred (w .flags)
       → di ≡ distinctBelow n (w .priority) → fi ≡ extensionWrong (n + w .m) (w .flags) (w .fields)
       → (nm || ltb 65536 h || sp || sh || fl || not di || fi) ≡ inputWrong w
   tests-answered n h en eh nm sp sh fl di fi e₁ e₂ e₃ e₄ e₅ e₆ = rw (e₁, e₂, e₃, e₄, e₅, e₆, en) (tests-are h eh)

@@ -9,16 +9,13 @@ use lib.Seq.{take-suc, take-all}
 use Rattle.little.specs.Parts.{part}
 use Rattle.little.specs.Fields.{bytesOf, putLe}
 use Rattle.little.proofs.PartLaws.{length-part}
-use Rattle.little.proofs.FieldLaws.{laws}
+use Rattle.little.proofs.FieldLaws.{long}
 use Rattle.blake3.specs.Tree.{hash}
 use Rattle.sfc.specs.Bytes.{zeros, padded}
 use Rattle.sfc.specs.Header.{magic, trailerMagic}
 use Rattle.sfc.specs.Chunk.{chunkMagic, endMarker, typeFor}
 use Rattle.sfc.specs.Writer.{erasureFor, identityBytes, shapeBytes, indexBytes, preamble, trailerBytes, chunkHeader, sealed, chunkBytes}
 use Rattle.sfc.proofs.FillLaws.{Front, front-start, front-length, front-end, front-le, front-lent, front-copy, front-is, front-taken, front-take, front-copied}
-
-long : (width v : ℕ) → length (bytesOf width v) ≡ width
-long width v = laws width .long v
 
 -- ---- padding
 

@@ -1,4 +1,4 @@
--- How long a hash, a chunk and lists joined are. Assumes nothing.
+-- How long a hash, a chunk, lists joined, and the parts of a written file are. Assumes nothing.
 use Prim.Native.Nat.{ℕ, zero, suc, _+_, _*_, _<_}
 use mathlib.Core.Path.{_≡_, refl, sym, ap, ap₂, _∙_}
 use mathlib.Core.Bool.{Bool, true, false, cond}
@@ -8,12 +8,16 @@ use native.Mathlib.Omega.{arith}
 use lib.Dec.{leb}
 use lib.ListN.{length, length-append}
 use Rattle.little.specs.Fields.{bytesOf}
-use Rattle.little.proofs.FieldLaws.{laws}
+use Rattle.little.proofs.FieldLaws.{long}
 use Rattle.blake3.specs.Compress.{compressed, folded, bytesOfWords}
 use Rattle.blake3.specs.Tree.{piece, parent, tree, hash}
 use Rattle.cauchy.specs.Code.{joined}
-use Rattle.sfc.specs.Writer.{sealed, chunkHeader, chunkBytes}
-use Rattle.sfc.proofs.LayoutLaws.{length-header}
+use Rattle.cauchy.proofs.CodeLaws.{length-code}
+use Rattle.sfc.specs.Limits.{shapeWrong}
+use Rattle.sfc.specs.Writer.{Input, size, blocks, dataOf, payload, trailerBytes, sealed, chunkHeader, chunkBytes}
+use Rattle.sfc.proofs.LayoutLaws.{length-header, length-padded}
+use Rattle.sfc.proofs.LimitLaws.{wanted-holds}
+use Rattle.sfc.proofs.MarkLaws.{RightShape, right-shape}
 
 -- ---- a hash has 32 bytes
 
@@ -37,7 +41,7 @@ length-tree (suc d) i root xs = length-pick (leb (length xs) 1024) _ _ (length-p
 length-words : (ws : List ℕ) → length (bytesOfWords ws) ≡ 4 * length ws
 unfolding bytesOfWords
 length-words [] = refl
-length-words (w ∷ ws) = length-append (bytesOf 4 w) (bytesOfWords ws) ∙ omega (arith, laws 4 .long w, length-words ws)
+length-words (w ∷ ws) = length-append (bytesOf 4 w) (bytesOfWords ws) ∙ omega (arith, long 4 w, length-words ws)
 
 pub length-hash : (xs : List ℕ) → length (hash xs) ≡ 32
 unfolding hash
@@ -89,3 +93,21 @@ length-joined f c (suc n) k h =
     let z : length (f c) ≡ k = rw e at (h 0 (omega arith)) in
     let r = length-joined f (suc c) n k (λ i u. let p : c + suc i ≡ suc c + i = omega arith in rw p at (h (suc i) (omega arith))) in
     length-append (f c) (joined f (suc c) n) ∙ omega (arith, z, r, suc-mul n k)
+
+-- ---- the trailer, the data and the payloads of a file
+
+pub length-trailer : (digest : List ℕ) (time : ℕ) → length digest ≡ 32 → length (trailerBytes digest time) ≡ 64
+unfolding trailerBytes
+length-trailer digest time d = simp (length-append, long, d)
+
+module _ (w : Input) (right : shapeWrong (size w) (blocks w) (w .m) (w .s) ≡ false) where
+  shape : RightShape (size w) (blocks w) (w .m) (w .s)
+  shape = right-shape (size w) (blocks w) (w .m) (w .s) right
+
+  pub length-data : length (dataOf w) ≡ blocks w * w .s
+  unfolding dataOf
+  length-data = length-padded (blocks w * w .s) (w .content) (wanted-holds (size w) (w .s) (omega (arith, shape .s-least)) .1)
+
+  pub length-payload : (i : ℕ) → length (payload w i) ≡ w .s
+  unfolding payload
+  length-payload i = length-code (blocks w) (w .m) (w .s) (dataOf w) i (shape .s-even) length-data

@@ -1,4 +1,6 @@
+-- The laws that the proofs of the functions cite, layer by layer, and the proofs of the statements in specs/.
 pub mod LimitLaws
+pub mod Numbered
 pub mod TextLaws
 pub mod CheckLaws
 pub mod ListLaws
@@ -24,7 +26,7 @@ pub mod MissingExact
 pub mod RangesExact
 pub mod NoteBack
 pub mod NoteExact
-pub mod SplitLaws
+pub mod ReservedLaws
 pub mod FillLaws
 pub mod LayoutLaws
 pub mod LengthLaws
@@ -34,6 +36,7 @@ pub mod RegionBack
 pub mod InputLaws
 pub mod FileLaws
 pub mod PlaceLaws
+pub mod Unread
 pub mod ChunkBack
 pub mod HeaderBack
 pub mod HeldLaws

@@ -1,6 +1,6 @@
 -- How many blocks a size wants, and that blocks of no bytes are unlawful. Assumes nothing.
 use Prim.Native.Nat.{ℕ, zero, suc, _+_, _-_, _*_, _/_, _<_, _≤_}
-use mathlib.Core.Path.{_≡_, refl, sym, ap, _∙_}
+use mathlib.Core.Path.{_≡_, refl, sym, ap}
 use mathlib.Core.Bool.{true}
 use native.Mathlib.Nat.{add-div-right, div-add-mod', mod-lt}
 use native.Mathlib.Omega.{arith}

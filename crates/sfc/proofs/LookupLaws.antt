@@ -1,17 +1,18 @@
 -- The walk that looks for a field, and the part of the input that it walks over. Assumes nothing.
 use Prim.Native.Nat.{ℕ, zero, suc, _+_, _-_, _*_, _<_, _≤_}
-use mathlib.Core.Path.{_≡_, refl, sym, ap, ap₂, _∙_}
-use mathlib.Core.Bool.{Bool, true, false}
+use mathlib.Core.Path.{_≡_, sym, ap, ap₂, _∙_}
+use mathlib.Core.Bool.{true, false}
 use mathlib.Core.List.{List, [], _∷_}
 use mathlib.Core.Logic.{_⊎_, ⊎-elim}
 use native.Mathlib.Omega.{arith}
 use borrow.Author.Tests.{eq-eqb, ne-eqb, ltb-false}
 use lib.Dec.{ltb}
-use lib.ListN.{length, take, drop, length-take, length-drop, drop-of-length-le}
-use lib.Seq.{drop-drop, take-all, take-add, drop-at, length-take-le}
+use lib.ListN.{length, take, drop, length-take, length-drop}
+use lib.Seq.{drop-drop, take-all}
 use Rattle.little.specs.Parts.{part}
 use Rattle.little.specs.Fields.{le}
 use Rattle.little.proofs.FieldLaws.{le-part}
+use Rattle.little.proofs.TestLaws.{or-false}
 use Rattle.sfc.specs.Limits.{lengthWrong}
 use Rattle.sfc.specs.Extension.{wholeField}
 use Rattle.sfc.specs.Header.{lengthField, regionOf}
@@ -19,7 +20,6 @@ use Rattle.sfc.specs.Lookup.{foundIn, extensionOf, extensionPlace, findF
 use Rattle.sfc.specs.declared.lookup.FieldFound.{FieldFound}
 use Rattle.sfc.specs.declared.lookup.FieldFound.the-variants.{At, Nothing}
 use Rattle.sfc.proofs.ExtensionLaws.{not-whole-head, not-whole-value, is-whole}
-use Rattle.sfc.proofs.HeaderLaws.{or-false}
 
 module _ (tag start : ℕ) (e : List ℕ) where
   -- what is to be found from place `at` on is what is to be found at all

@@ -1,6 +1,6 @@
 -- What 71 lets through of the numbers handed in and of the marks, and a turn of the loop over marks. Assumes nothing.
 use Prim.Native.Nat.{ℕ, zero, suc, _+_, _-_, _*_, _%_, _<_, _≤_}
-use mathlib.Core.Path.{_≡_, refl, sym, ap, _∙_}
+use mathlib.Core.Path.{_≡_, refl}
 use mathlib.Core.Bool.{Bool, true, false, not, _&&_, _||_}
 use mathlib.Core.List.{List, [], _∷_}
 use native.Mathlib.Nat.{mul-le-mul}
@@ -10,10 +10,9 @@ use lib.Dec.{eqb, ltb}
 use lib.ListN.{length, getD, drop}
 use lib.Seq.{drop-length}
 use Rattle.little.proofs.PartLaws.{drop-down}
+use Rattle.little.proofs.TestLaws.{or-false, and-both}
 use Rattle.sfc.specs.Limits.{unlawful, aboveHouse, shapeWrong, wantedBlocks}
 use Rattle.sfc.specs.Marks.{marksFit, marksWrong}
-use Rattle.sfc.proofs.HeaderLaws.{or-false}
-use Rattle.sfc.proofs.RunLaws.{and-true}
 
 -- ---- what 71 lets through
 
@@ -79,8 +78,8 @@ right-marks size n m s marks e =
 pub fit-at : (marks : List ℕ) (i : ℕ) → marksFit marks ≡ true → getD marks i 0 < 3
 unfolding marksFit
 fit-at [] i e = omega arith
-fit-at (k ∷ marks) zero e = ltb-true k 3 (and-true (ltb k 3) (marksFit marks) e .0)
-fit-at (k ∷ marks) (suc i) e = fit-at marks i (and-true (ltb k 3) (marksFit marks) e .1)
+fit-at (k ∷ marks) zero e = ltb-true k 3 (and-both (ltb k 3) (marksFit marks) e .0)
+fit-at (k ∷ marks) (suc i) e = fit-at marks i (and-both (ltb k 3) (marksFit marks) e .1)
 
 pub fit-all : (marks : List ℕ) → ((i : ℕ) → getD marks i 0 < 3) → marksFit marks ≡ true
 unfolding marksFit

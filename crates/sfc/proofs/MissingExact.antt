@@ -10,6 +10,7 @@ use lib.Dec.{ltb}
 use lib.ListN.{length, getD, take}
 use lib.Seq.{length-take-le, getD-take}
 use Rattle.little.proofs.PartLaws.{below-or}
+use Rattle.little.proofs.TestLaws.{ltb-suc}
 use Rattle.sfc.specs.Bytes.{any}
 use Rattle.sfc.specs.Extension.{risingFrom}
 use Rattle.sfc.specs.Marks.{isHeld, heldCount}
@@ -40,16 +41,11 @@ listed j zero (k ∷ ks) =
     go false = rw (eq-eqb j j refl)
 listed j (suc d) (k ∷ ks) =
     let e : j + suc d ≡ suc j + d = omega arith in
-    rw e (go (isHeld k) ∙ listed (suc j) d ks ∙ ap (λ (b : Bool). b && not (isHeld (getD ks d 0))) (same-test d (length ks)))
+    rw e (go (isHeld k) ∙ listed (suc j) d ks ∙ ap (λ (b : Bool). b && not (isHeld (getD ks d 0))) (sym (ltb-suc d (length ks))))
   where
     go : (b : Bool) → among (suc j + d) (cond b (unheldFrom (suc j) ks) (j ∷ unheldFrom (suc j) ks)) ≡ among (suc j + d) (unheldFrom (suc j) ks)
     go true = refl
     go false = rw (ne-eqb (suc j + d) j (λ e. omega arith))
-
-    same-test : (a b : ℕ) → ltb a b ≡ ltb (suc a) (suc b)
-    same-test a b =
-        ⊎-elim (λ (p : a < b). lt-ltb a b p ∙ sym (lt-ltb (suc a) (suc b) (omega arith)))
-        (λ (p : b ≤ a). le-ltb a b p ∙ sym (le-ltb (suc a) (suc b) (omega arith))) (below-or a b)
 
 none : (i : ℕ) → among i (unheldFrom 0 []) ≡ false
 unfolding any unheldFrom

@@ -2,11 +2,10 @@
 -- Assumes nothing.
 use Prim.Native.Nat.{ℕ, zero, suc, _+_, _-_, _<_, _≤_}
 use mathlib.Core.Path.{_≡_, refl, sym, ap, ap₂, _∙_}
-use mathlib.Core.Bool.{Bool, true, false, cond, not, _||_}
+use mathlib.Core.Bool.{Bool, true, false, cond}
 use mathlib.Core.List.{List, [], _∷_, _++_}
 use native.Mathlib.Omega.{arith}
-use borrow.Author.Tests.{eq-eqb, ne-eqb, le-leb, lt-leb, ltb-false, lt-ltb, le-ltb, eqb-true, not-false}
-use lib.Dec.{eqb, ltb}
+use borrow.Author.Tests.{eq-eqb, ne-eqb, le-leb, lt-leb, lt-ltb, le-ltb}
 use lib.ListN.{length, getD, set, take, drop, length-set}
 use lib.Seq.{length-take-le, drop-length, drop-set-lt, drop-cons, getD-set-same}
 use Rattle.little.specs.Parts.{put}
@@ -50,15 +49,6 @@ module _ (xs : List ℕ) (i : ℕ) (h : 0 < i) (k : i ≤ length xs) where
 pub unheld-none : (i : ℕ) (xs : List ℕ) → unheldFrom i (drop (length xs) xs) ≡ []
 unfolding unheldFrom
 unheld-none i xs = rw drop-length
-
-pub held-few : (xs : List ℕ) → heldCount xs ≤ length xs
-unfolding heldCount
-held-few [] = omega arith
-held-few (k ∷ ks) = go (isHeld k) (held-few ks)
-  where
-    go : (b : Bool) → heldCount ks ≤ length ks → cond b (suc (heldCount ks)) (heldCount ks) ≤ suc (length ks)
-    go true h = omega arith
-    go false h = omega arith
 
 pub unheld-count : (i : ℕ) (xs : List ℕ) → length (unheldFrom i xs) + heldCount xs ≡ length xs
 unfolding heldCount unheldFrom

@@ -7,23 +7,25 @@ use mathlib.Core.Logic.{⊎-elim}
 use mathlib.Core.List.{List, [], _∷_, _++_, append-assoc}
 use native.Mathlib.Omega.{arith}
 use borrow.Author.Tests.{eqb-true, not-false}
-use lib.Dec.{eqb, lit<}
-use lib.ListN.{length, getD, take, drop, take-append-drop, List·getD-eq-default, drop-of-length-le}
+use lib.Dec.{eqb}
+use lib.ListN.{length, getD, take, drop, take-append-drop, drop-of-length-le}
 use lib.Seq.{drop-drop, drop-cons, length-take-le}
 use Rattle.little.specs.Parts.{part}
 use Rattle.little.specs.Fields.{Bytes}
-use Rattle.little.proofs.PartLaws.{below-or, length-part, getD-part}
+use Rattle.little.proofs.PartLaws.{below-or, length-part}
+use Rattle.little.proofs.TestLaws.{or-false}
+use Rattle.little.proofs.FieldLaws.{bytes-part}
 use Rattle.sfc.specs.Marks.{isHeld, heldCount, marksWrong}
 use Rattle.sfc.specs.Missing.{Range, unheldFrom, missing, putBefore, ranges, apartFrom, maximal}
 use Rattle.sfc.specs.Note.{be, bigBytes, pairsBytes, noteOf, uuidIn, countIn, pairsFrom, rangesIn, malformed}
 use Rattle.sfc.specs.NoteTheorems.{Small, Sayable, NoteTheorems}
-use Rattle.sfc.proofs.HeaderLaws.{or-false}
 use Rattle.sfc.proofs.MissingLaws.{missing-none, missing-all}
 use Rattle.sfc.proofs.MarkLaws.{right-marks}
 use Rattle.sfc.proofs.BigLaws.{be-bound, bytes-back}
 use Rattle.sfc.proofs.MissingExact.{missing-rises}
 use Rattle.sfc.proofs.RangesExact.{apart, ranges-exact}
 use Rattle.sfc.proofs.NoteBack.{well-formed, note-read-back}
+use Rattle.sfc.proofs.NoteLaws.{length-pairsFrom}
 
 -- ---- bytes that are taken are a note
 
@@ -44,23 +46,10 @@ pairs-there b y at (suc k) e =
     ∙ ap (λ (l : List ℕ). bigBytes 4 (be b (at + 4) 4) ++ l) (pairs-there b y (at + 8) k (omega arith)))
     ∙ sym (append-assoc (bigBytes 4 (be b at 4)) (bigBytes 4 (be b (at + 4) 4)) (pairsBytes (pairsFrom b (at + 8) k)))
 
-length-pairsFrom : (b : List ℕ) (at k : ℕ) → length (pairsFrom b at k) ≡ k
-unfolding pairsFrom
-length-pairsFrom b at zero = refl
-length-pairsFrom b at (suc k) = ap suc (length-pairsFrom b (at + 8) k)
-
 small-pairs : (b : List ℕ) → Bytes b → (at k : ℕ) → Small (pairsFrom b at k)
 unfolding pairsFrom
 small-pairs b y at zero = tt
 small-pairs b y at (suc k) = (be-bound 4 b y at, be-bound 4 b y (at + 4), small-pairs b y (at + 8) k)
-
-part-bytes : (b : List ℕ) → Bytes b → (at n : ℕ) → at + n ≤ length b → Bytes (part b at n)
-part-bytes b y at n h i =
-    ⊎-elim (λ (p : i < n). rw (getD-part b at n i p) (y (at + i)))
-    (λ (p : n ≤ i).
-    let z : getD (part b at n) i 0 ≡ 0 = List·getD-eq-default (part b at n) 0 {n = i} (omega (arith, length-part b at n h)) in
-    rw z (lit< tt))
-    (below-or i n)
 
 -- the four tests
 record WellFormed (b : List ℕ) : Type 0 where
@@ -103,7 +92,7 @@ sayable b y w =
     let l = w .long in
     record {
       uuid-long = length-part b 5 16 (omega arith);
-      uuid-bytes = part-bytes b y 5 16 (omega arith);
+      uuid-bytes = bytes-part b 5 16 y;
       rise = w .rise;
       indices = small-pairs b y 23 (countIn b);
       few = rw (length-pairsFrom b 23 (countIn b)) (be-bound 2 b y 21);

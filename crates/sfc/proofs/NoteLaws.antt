@@ -2,7 +2,7 @@
 -- and copy pairs, and the answers. Assumes nothing.
 use Prim.Native.Nat.{ℕ, zero, suc, _+_, _-_, _*_, _<_, _≤_}
 use mathlib.Core.Path.{_≡_, refl, sym, ap, _∙_}
-use mathlib.Core.Bool.{Bool, true, false, not, _&&_, _||_}
+use mathlib.Core.Bool.{Bool, true, false, not, _&&_, _||_, and-true, and-assoc}
 use mathlib.Core.List.{List, [], _∷_, _++_, append-assoc}
 use native.Mathlib.Nat.{sub-zero}
 use native.Mathlib.Omega.{arith}
@@ -12,6 +12,7 @@ use lib.ListN.{length, getD, set, take, drop, length-append, length-set}
 use lib.Seq.{length-take-le, drop-at, drop-drop}
 use Rattle.little.specs.Parts.{part, put}
 use Rattle.little.proofs.PartLaws.{lent, length-part, length-put}
+use Rattle.little.proofs.TestLaws.{or-false}
 use Rattle.sfc.specs.Marks.{marksWrong}
 use Rattle.sfc.specs.Numbers.{Answered}
 use Rattle.sfc.specs.Missing.{Range, unheldFrom, missing, ranges, apartFrom, maximal}
@@ -21,7 +22,7 @@ use Rattle.sfc.specs.declared.reason.Checked.the-variants.{Good}
 use Rattle.sfc.specs.declared.note.NoteRead.{NoteRead}
 use Rattle.sfc.specs.declared.written.Written.{Written}
 use Rattle.sfc.specs.declared.written.Written.the-variants.{Bytes, Refused as Unwritten}
-use Rattle.sfc.proofs.HeaderLaws.{or-false, copied}
+use Rattle.sfc.proofs.HeaderLaws.{copied}
 use Rattle.sfc.proofs.MissingLaws.{drop-set}
 use Rattle.sfc.proofs.BigLaws.{length-big}
 
@@ -155,10 +156,6 @@ module _ (uuid : List ℕ) (size n m s : ℕ) (marks out : List ℕ) where
 
 -- ---- judging pairs
 
-and-assoc : (a b c : Bool) → (a && b) && c ≡ a && (b && c)
-and-assoc true b c = refl
-and-assoc false b c = refl
-
 pub judge-start : (b : List ℕ) (count : ℕ) → (true && apartFrom 0 (pairsFrom b (23 + 8 * 0) (count - 0))) ≡ maximal (pairsFrom b 23 count)
 judge-start b count = rw sub-zero
 
@@ -176,11 +173,7 @@ pub judge-end : (b : List ℕ) (count k least : ℕ) (apart whole : Bool) → co
 unfolding apartFrom pairsFrom
 judge-end b count k least apart whole h e =
     let n : count - k ≡ 0 = omega arith in
-    and-true apart ∙ (rw n at e)
-  where
-    and-true : (a : Bool) → a ≡ (a && true)
-    and-true true = refl
-    and-true false = refl
+    sym (and-true apart) ∙ (rw n at e)
 
 pub judged-bad : (b : List ℕ) (count : ℕ) → count ≡ countIn b
     → (not (eqb (length b) (23 + 8 * count)) || not (eqb (be b 0 4) (19 + 8 * count)) || not (eqb (getD b 4 0) 1)) ≡ true → true ≡ malformed b
@@ -235,10 +228,18 @@ copy-turn b count out₀ out k first last h room l ef el =
       behind = x ∙ ap (λ (t : List ℕ). first ∷ t) (y ∙ ap (λ (t : List ℕ). last ∷ t) z) ∙ (rw (n, p, q, ef, el) refl);
     }
 
+pub bounds-long : (rs : List Range) → length (bounds rs) ≡ 2 * length rs
+unfolding bounds
+bounds-long [] = refl
+bounds-long (r ∷ rs) = omega (arith, bounds-long rs)
+
+pub length-pairsFrom : (b : List ℕ) (at k : ℕ) → length (pairsFrom b at k) ≡ k
+unfolding pairsFrom
+length-pairsFrom b at zero = refl
+length-pairsFrom b at (suc k) = ap suc (length-pairsFrom b (at + 8) k)
+
 pub length-bounds : (b : List ℕ) (at k : ℕ) → length (bounds (pairsFrom b at k)) ≡ 2 * k
-unfolding bounds pairsFrom
-length-bounds b at zero = refl
-length-bounds b at (suc k) = omega (arith, length-bounds b (at + 8) k)
+length-bounds b at k = bounds-long (pairsFrom b at k) ∙ ap (λ (n : ℕ). 2 * n) (length-pairsFrom b at k)
 
 pub copy-end : (b : List ℕ) (count : ℕ) (out₀ out : List ℕ) (k : ℕ) → k ≤ 0 → Copying b count out₀ out k
     → out ≡ put out₀ 0 (bounds (pairsFrom b 23 count))

@@ -1,6 +1,6 @@
 -- What one offer changes (SessionTheorems, OneOffer). Assumes nothing.
-use Prim.Native.Nat.{ℕ, zero, suc, _+_, _*_, _<_, _≤_}
-use mathlib.Core.Path.{_≡_, refl, sym, ap, ap₂, _∙_, subst}
+use Prim.Native.Nat.{ℕ, _+_, _*_}
+use mathlib.Core.Path.{_≡_, refl, sym, ap, _∙_, subst}
 use mathlib.Core.Logic.{_≢_}
 use mathlib.Core.Bool.{Bool, true, false, cond, not, _&&_}
 use mathlib.Core.List.{List, [], _∷_, _++_}
@@ -9,10 +9,11 @@ use borrow.Author.Tests.{eqb-true, eqb-false, eq-eqb, ne-eqb, not-false, not-tru
 use lib.Dec.{eqb}
 use lib.ListN.{length, set, length-set, length-replicate}
 use lib.Seq.{getD-set-same, getD-set-other}
-use Rattle.little.specs.Parts.{block, putBlock}
+use Rattle.little.specs.Parts.{putBlock}
 use Rattle.little.proofs.PartLaws.{length-part, length-putBlock, block-put, block-put-other}
+use Rattle.little.proofs.TestLaws.{and-both}
 use Rattle.sfc.specs.Bytes.{zeros, same}
-use Rattle.sfc.specs.Numbers.{Check, checked, verdict, numberOf, reasonOf}
+use Rattle.sfc.specs.Numbers.{Check, checked, numberOf, reasonOf}
 use Rattle.sfc.specs.Chunk.{indexOf, payloadLength, payloadOf, chunkChecks, number, place}
 use Rattle.sfc.specs.Tallies.{tallyFull}
 use Rattle.sfc.specs.Session.{Session, mark, blockOf, sessionWrong, markChecks, offerChecks, welcomed, verdictOf, withBlock, settled, tallied, after}
@@ -20,13 +21,12 @@ use Rattle.sfc.specs.Steps.{Welcome}
 use Rattle.sfc.specs.SessionTheorems.{ChangesOne, SameKept, OneOffer}
 use Rattle.sfc.specs.declared.header.Head.{Head}
 use Rattle.sfc.specs.declared.reason.Reason.{Reason}
-use Rattle.sfc.specs.declared.reason.Checked.the-variants.{Good, Refused as Wrong}
 use Rattle.sfc.specs.declared.places.BlockNumber.{BlockNumber}
 use Rattle.sfc.specs.declared.places.BytePlace.{BytePlace}
 use Rattle.sfc.specs.declared.session.Verdict.{Verdict}
 use Rattle.sfc.specs.declared.session.Verdict.the-variants.{Fresh, Repeat, Refused}
-use Rattle.sfc.proofs.CheckLaws.{Passed}
-use Rattle.sfc.proofs.RunLaws.{same-eq, same-apart, and-true, true≢false}
+use Rattle.sfc.proofs.CheckLaws.{Passed, all-passed, front-good, let-through}
+use Rattle.sfc.proofs.RunLaws.{same-eq, same-apart}
 use Rattle.sfc.proofs.SessionLaws.{Facts, facts, after-by, full-refused, offered-session}
 use Rattle.sfc.proofs.MarkLaws.{fit-at}
 use Rattle.sfc.proofs.BlockSteps.{Kept}
@@ -39,17 +39,6 @@ apart r i p e = absurd (let z : _≡_ {A = ℕ} 0 1 = cc in omega arith)
 
 apart′ : {A : Type 0} (r : Reason) (i : BlockNumber) (p : BytePlace) → _≡_ {A = Verdict} (Refused r) (Repeat i p) → A
 apart′ r i p e = absurd (let z : _≡_ {A = ℕ} 0 1 = cc in omega arith)
-
--- a verdict that is no refusal was let through by every check
-let-through : (cs : List Check) (good v : Verdict) → ((r : Reason) → Refused r ≡ v → ⊥) → checked cs Refused good ≡ v → Passed cs × (good ≡ v)
-let-through [] good v n e = (tt, e)
-let-through ((true, k) ∷ cs) good v n e = absurd (n (reasonOf k) e)
-let-through ((false, k) ∷ cs) good v n e = let p = let-through cs good v n e in ((refl, p .0), p .1)
-
-passed-left : (cs ds : List Check) → Passed (cs ++ ds) → verdict cs ≡ Good
-passed-left [] ds p = refl
-passed-left ((true, k) ∷ cs) ds p = true≢false (p .0)
-passed-left ((false, k) ∷ cs) ds p = passed-left cs ds (p .1)
 
 passed-right : (cs ds : List Check) → Passed (cs ++ ds) → Passed ds
 passed-right [] ds p = p
@@ -92,7 +81,7 @@ module _ (h : Head) (x : Session) (c : List ℕ) where
   -- ---- the verdicts
 
   open-passed : Passed (offerChecks h x c) → Welcome h x c
-  open-passed p = record { lent = p .0; room = p .1 .0; whole = passed-left (chunkChecks h c) (markChecks h x c) (p .1 .1) }
+  open-passed p = record { lent = p .0; room = p .1 .0; whole = front-good (chunkChecks h c) (markChecks h x c) (all-passed (chunkChecks h c ++ markChecks h x c) (p .1 .1)) }
 
   mark-passed : Passed (offerChecks h x c) → Passed (markChecks h x c)
   mark-passed p = passed-right (chunkChecks h c) (markChecks h x c) (p .1 .1)
@@ -124,7 +113,7 @@ module _ (h : Head) (x : Session) (c : List ℕ) where
       → (i ≡ indexOf c) × (p ≡ i * h .s) × (mark x i ≡ 0) × ChangesOne h x (after h x c) i (payloadOf c) 1
   unfolding verdictOf settled
   fresh-changes-one i p e =
-      let t = let-through (offerChecks h x c) (welcomed h x c) (Fresh (number i) (place p)) (λ r. apart r _ _) e in
+      let t = let-through Refused (offerChecks h x c) (welcomed h x c) (Fresh (number i) (place p)) (λ r. apart r _ _) e in
       let f = facts h x c (open-passed (t .0)) in
       let q = is-fresh (eqb (mark x (indexOf c)) 0) i p (t .1) in
       let one = changes f (payloadOf c) 1 (Fresh (number i) (place p)) (long f) (after-by h x c (Fresh (number i) (place p)) e) in (
@@ -138,7 +127,7 @@ module _ (h : Head) (x : Session) (c : List ℕ) where
       → (i ≡ indexOf c) × (p ≡ i * h .s) × (mark x i ≡ 1) × (blockOf h x i ≡ payloadOf c) × SameKept x (after h x c)
   unfolding verdictOf settled
   repeat-changes-nothing i p e =
-      let t = let-through (offerChecks h x c) (welcomed h x c) (Repeat (number i) (place p)) (λ r. apart′ r _ _) e in
+      let t = let-through Refused (offerChecks h x c) (welcomed h x c) (Repeat (number i) (place p)) (λ r. apart′ r _ _) e in
       let f = facts h x c (open-passed (t .0)) in
       let q = is-repeat (eqb (mark x (indexOf c)) 0) i p (t .1) in
       let k = mark-passed (t .0) in
@@ -170,9 +159,9 @@ module _ (h : Head) (x : Session) (c : List ℕ) where
       let t = eqb (mark x (indexOf c)) 1 && not (same (blockOf h x (indexOf c)) (payloadOf c)) in
       let p = last-refuses before41 t 41 (welcomed h x c) r (never-refused (eqb (mark x (indexOf c)) 0))
       (o 71 (λ z. omega arith), (o 43 (λ z. omega arith), (o 30 (λ z. omega arith), (o 31 (λ z. omega arith), (o 32 (λ z. omega arith), (o 30 (λ z. omega arith), (o 33 (λ z. omega arith), (o 34 (λ z. omega arith), (o 35 (λ z. omega arith), (o 36 (λ z. omega arith), (o 37 (λ z. omega arith), (o 38 (λ z. omega arith), (o 39 (λ z. omega arith), (o 40 (λ z. omega arith), (o 42 (λ z. omega arith), tt))))))))))))))) e in
-      let w : Welcome h x c = record { lent = p .0 .0; room = p .0 .1 .0; whole = passed-left (chunkChecks h c) ((eqb (mark x (indexOf c)) 2, 42) ∷ []) (p .0 .1 .1) } in
+      let w : Welcome h x c = record { lent = p .0 .0; room = p .0 .1 .0; whole = front-good (chunkChecks h c) ((eqb (mark x (indexOf c)) 2, 42) ∷ []) (all-passed (chunkChecks h c ++ ((eqb (mark x (indexOf c)) 2, 42) ∷ [])) (p .0 .1 .1)) } in
       let f = facts h x c w in
-      let a = and-true (eqb (mark x (indexOf c)) 1) (not (same (blockOf h x (indexOf c)) (payloadOf c))) (p .1) in (
+      let a = and-both (eqb (mark x (indexOf c)) 1) (not (same (blockOf h x (indexOf c)) (payloadOf c))) (p .1) in (
         eqb-true (mark x (indexOf c)) 1 (a .0),
         (λ q. same-apart (blockOf h x (indexOf c)) (payloadOf c) (not-true (same (blockOf h x (indexOf c)) (payloadOf c)) (a .1)) q),
         changes f (zeros (h .s)) 2 (Refused r) (length-replicate {A = ℕ} (h .s) 0) (rw (eq-eqb (numberOf r) 41 k) at (after-by h x c (Refused r) e)),

@@ -2,7 +2,7 @@
 -- Assumes nothing.
 use Prim.Native.Nat.{ℕ, zero, suc, _+_, _-_, _*_, _<_, _≤_}
 use mathlib.Core.Path.{_≡_, refl, sym, ap, _∙_}
-use mathlib.Core.Bool.{Bool, true, false, cond, not, _&&_}
+use mathlib.Core.Bool.{Bool, true, false, cond, not, _&&_, false≢true}
 use mathlib.Core.List.{List, [], _∷_, _++_, append-assoc}
 use mathlib.Core.Logic.{_⊎_, inl, inr, ⊎-elim}
 use native.Mathlib.Omega.{arith}
@@ -15,9 +15,6 @@ use Rattle.sfc.specs.Missing.{unheldFrom, Range, putBefore, ranges}
 use Rattle.sfc.specs.Note.{bigBytes, pairBytes, pairsBytes, indexPut}
 use Rattle.sfc.proofs.MissingLaws.{unheld-same, unheld-more, unheld-none}
 use Rattle.sfc.proofs.BigLaws.{length-big}
-
-pub clash : {A : Type 0} → _≡_ {A = Bool} false true → A
-clash e = absurd (let z : _≡_ {A = ℕ} 0 1 = cc in omega arith)
 
 either : (b : Bool) → (b ≡ true) ⊎ (b ≡ false)
 either true = inl refl
@@ -65,12 +62,12 @@ begins-later i j (k ∷ ks) h = go (isHeld k) (begins-later i (suc j) ks (omega 
 
 begins-some : (i : ℕ) (rs : List Range) → beginsAt i rs ≡ true → 0 < length rs
 unfolding beginsAt
-begins-some i [] e = clash e
+begins-some i [] e = absurd (false≢true e)
 begins-some i (r ∷ rs) e = omega arith
 
 joined-length : (i : ℕ) (rs : List Range) → beginsAt (suc i) rs ≡ true → length (putBefore i rs) ≡ length rs
 unfolding beginsAt putBefore
-joined-length i [] e = clash e
+joined-length i [] e = absurd (false≢true e)
 joined-length i (r ∷ rs) e = rw e
 
 own-length : (i : ℕ) (rs : List Range) → beginsAt (suc i) rs ≡ false → length (putBefore i rs) ≡ suc (length rs)

@@ -2,22 +2,18 @@
 -- Assumes nothing.
 use Prim.Native.Nat.{ℕ, suc, _+_, _<_, _≤_}
 use mathlib.Core.Path.{_≡_, refl, sym, ap, ap₂, _∙_}
-use mathlib.Core.Bool.{Bool, true, false, cond, _&&_, _||_}
+use mathlib.Core.Bool.{Bool, true, false, cond, _&&_, _||_, false≢true}
 use mathlib.Core.Logic.{⊎-elim}
 use mathlib.Core.List.{List, [], _∷_}
 use native.Mathlib.Omega.{arith}
 use borrow.Author.Tests.{eq-eqb, ne-eqb, eqb-true, eqb-false, le-leb, lt-leb, leb-true}
 use lib.Dec.{eqb, leb}
 use Rattle.little.proofs.PartLaws.{below-or}
+use Rattle.little.proofs.TestLaws.{and-both}
 use Rattle.sfc.specs.Bytes.{any}
 use Rattle.sfc.specs.Extension.{risingFrom}
 use Rattle.sfc.specs.Missing.{Range, putBefore, ranges, apartFrom}
 use Rattle.sfc.specs.NoteTheorems.{among, covered, RangesExact}
-use Rattle.sfc.proofs.RangeLaws.{clash}
-
-and-both : (a b : Bool) → (a && b) ≡ true → (a ≡ true) × (b ≡ true)
-and-both true b e = (refl, e)
-and-both false b e = clash e
 
 -- what the test of ranges says of the first of them, and of the rest
 pub record Apart (least : ℕ) (r : Range) (rs : List Range) : Type 0 where
@@ -143,7 +139,7 @@ not-later : (l m : ℕ) (r q : Range) (rs qs : List Range) → Apart l r rs → 
     → q .first ≤ r .first
 not-later l m r q rs qs a b h =
     ⊎-elim (λ (p : r .first < q .first).
-    clash (sym (before-first (r .first) q qs p ∙ before-all (q .last + 2) (r .first) qs (b .rest) (omega (arith, b .some))) ∙ sym (h (r .first)) ∙ first-in l r rs a))
+    absurd (false≢true (sym (before-first (r .first) q qs p ∙ before-all (q .last + 2) (r .first) qs (b .rest) (omega (arith, b .some))) ∙ sym (h (r .first)) ∙ first-in l r rs a)))
     (λ (p : q .first ≤ r .first). p)
     (below-or (r .first) (q .first))
 
@@ -151,8 +147,8 @@ not-sooner : (l m : ℕ) (r q : Range) (rs qs : List Range) → Apart l r rs →
     → ((i : ℕ) → covered i (r ∷ rs) ≡ covered i (q ∷ qs)) → q .last ≤ r .last
 not-sooner l m r q rs qs a b e h =
     ⊎-elim (λ (p : r .last < q .last).
-    clash (sym (behind-last (suc (r .last)) r rs (omega arith) ∙ before-all (r .last + 2) (suc (r .last)) rs (a .rest) (omega arith))
-    ∙ h (suc (r .last)) ∙ inside (suc (r .last)) q qs (omega (arith, a .some)) (omega arith)))
+    absurd (false≢true (sym (behind-last (suc (r .last)) r rs (omega arith) ∙ before-all (r .last + 2) (suc (r .last)) rs (a .rest) (omega arith))
+    ∙ h (suc (r .last)) ∙ inside (suc (r .last)) q qs (omega (arith, a .some)) (omega arith))))
     (λ (p : q .last ≤ r .last). p)
     (below-or (r .last) (q .last))
 
@@ -162,8 +158,8 @@ none i = refl
 
 same : (l m : ℕ) (rs qs : List Range) → apartFrom l rs ≡ true → apartFrom m qs ≡ true → ((i : ℕ) → covered i rs ≡ covered i qs) → rs ≡ qs
 same l m [] [] e f h = refl
-same l m [] (q ∷ qs) e f h = clash (none (q .first) ∙ h (q .first) ∙ first-in m q qs (apart m q qs f))
-same l m (r ∷ rs) [] e f h = clash (none (r .first) ∙ sym (h (r .first)) ∙ first-in l r rs (apart l r rs e))
+same l m [] (q ∷ qs) e f h = absurd (false≢true (none (q .first) ∙ h (q .first) ∙ first-in m q qs (apart m q qs f)))
+same l m (r ∷ rs) [] e f h = absurd (false≢true (none (r .first) ∙ sym (h (r .first)) ∙ first-in l r rs (apart l r rs e)))
 same l m (r ∷ rs) (q ∷ qs) e f h =
     let a = apart l r rs e in
     let b = apart m q qs f in

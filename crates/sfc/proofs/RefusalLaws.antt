@@ -1,4 +1,4 @@
--- What an answer tells of the checks behind it, whatever form it has, and what is then left of an output. Assumes nothing.
+-- What is left of an output behind a list of checks, and which part of a list refused. Assumes nothing.
 use Prim.Native.Nat.{ℕ, _≤_}
 use mathlib.Core.Path.{_≡_, sym, ap, _∙_}
 use mathlib.Core.Bool.{true, false, not}
@@ -12,20 +12,9 @@ use Rattle.sfc.specs.Numbers.{Check, checked, verdict, passes, numberOf,
 use Rattle.sfc.specs.NoteTheorems.{among}
 use Rattle.sfc.specs.Demand1.{Leaves, Ends}
 use Rattle.sfc.specs.declared.reason.Reason.{Reason}
-use Rattle.sfc.specs.declared.reason.Checked.{Checked}
 use Rattle.sfc.specs.declared.reason.Checked.the-variants.{Good, Refused}
 use Rattle.sfc.proofs.CheckLaws.{good-all, refused-all}
 use Rattle.sfc.proofs.SessionLaws.{Numbers, number-in}
-
--- `seen` reads the verdict out of an answer
-module _ {A : Type 0} (seen : A → Checked) (refuse : Reason → A) (good : A) (f : (r : Reason) → seen (refuse r) ≡ Refused r) (g : seen good ≡ Good) where
-  seen-of : (cs : List Check) → seen (checked cs refuse good) ≡ verdict cs
-  seen-of [] = g
-  seen-of ((true, k) ∷ cs) = f (reasonOf k)
-  seen-of ((false, k) ∷ cs) = seen-of cs
-
-  pub tells : (cs : List Check) (v : Checked) → seen (checked cs refuse good) ≡ v → verdict cs ≡ v
-  tells cs v e = sym (seen-of cs) ∙ e
 
 -- ---- what is left of an output that only a good verdict changes
 

@@ -11,12 +11,12 @@ use lib.ListN.{length, getD, take, drop, length-append, length-replicate}
 use lib.Seq.{drop-drop, drop-at, take-at, getD-drop}
 use Rattle.little.specs.Parts.{part}
 use Rattle.little.specs.Fields.{le, bytesOf}
-use Rattle.little.proofs.FieldLaws.{laws, le-part, le-drop}
+use Rattle.little.proofs.FieldLaws.{laws, le-part, le-drop, long}
+use Rattle.little.proofs.TestLaws.{or-false}
 use Rattle.blake3.specs.Tree.{hash}
 use Rattle.sfc.specs.Bytes.{any, zeros, padded, beforeZero}
 use Rattle.sfc.specs.Header.{headOf, indices}
 use Rattle.sfc.specs.Writer.{Input, size, blocks, erasureFor, compression, identityBytes, shapeBytes, indexBytes, body, region, outgrows, outgrown, headFor}
-use Rattle.sfc.proofs.HeaderLaws.{or-false}
 use Rattle.sfc.proofs.LayoutLaws.{length-padded, length-indices}
 use Rattle.sfc.proofs.LengthLaws.{length-hash}
 
@@ -117,9 +117,6 @@ not-outgrown w s =
     )
 
 -- ---- the region, piece by piece
-
-long : (width v : ℕ) → length (bytesOf width v) ≡ width
-long width v = laws width .long v
 
 module _ (w : Input) where
   -- the rest of the region from a place on

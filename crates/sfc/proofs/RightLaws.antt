@@ -2,16 +2,15 @@
 use Prim.Native.Nat.{ℕ, zero, suc, _+_, _*_}
 use mathlib.Core.Path.{_≡_, refl, ap, subst}
 use mathlib.Core.Bool.{Bool, true, false, cond}
-use mathlib.Core.List.{List, [], _∷_, _++_}
+use mathlib.Core.List.{List, [], _∷_}
 use native.Mathlib.Omega.{arith}
 use borrow.Author.Tests.{eq-eqb}
 use lib.Dec.{eqb}
-use lib.ListN.{length, getD, take, drop, length-replicate}
-use lib.Seq.{getD-drop}
+use lib.ListN.{getD, length-replicate}
 use Rattle.little.specs.Fields.{Bytes}
-use Rattle.little.specs.Parts.{part, put}
+use Rattle.little.proofs.FieldLaws.{bytes-part, bytes-put}
 use Rattle.sfc.specs.Bytes.{zeros}
-use Rattle.sfc.specs.Numbers.{Check, checked, numberOf, reasonOf}
+use Rattle.sfc.specs.Numbers.{numberOf}
 use Rattle.sfc.specs.Limits.{shapeWrong}
 use Rattle.sfc.specs.Marks.{marksWrong}
 use Rattle.sfc.specs.Header.{regionOf, headOf, headerChecks, refusedHeader, acceptedHeader, readHeader}
@@ -25,25 +24,12 @@ use Rattle.sfc.specs.declared.reason.Checked.{Checked}
 use Rattle.sfc.specs.declared.reason.Checked.the-variants.{Good, Refused as Wrong}
 use Rattle.sfc.specs.declared.session.Verdict.{Verdict}
 use Rattle.sfc.specs.declared.session.Verdict.the-variants.{Fresh, Repeat, Refused}
-use Rattle.sfc.proofs.CheckLaws.{Passed}
+use Rattle.sfc.specs.declared.reason.Reason.{Reason}
+use Rattle.sfc.proofs.CheckLaws.{let-through}
 use Rattle.sfc.proofs.MarkLaws.{fit-all}
 use Rattle.sfc.proofs.OfferLaws.{one-offer}
 
--- ---- bytes stay bytes
-
-pub bytes-append : (xs ys : List ℕ) → Bytes xs → Bytes ys → Bytes (xs ++ ys)
-bytes-append [] ys a b i = b i
-bytes-append (x ∷ xs) ys a b zero = a 0
-bytes-append (x ∷ xs) ys a b (suc i) = bytes-append xs ys (λ k. a (suc k)) b i
-
-bytes-take : (n : ℕ) (xs : List ℕ) → Bytes xs → Bytes (take n xs)
-bytes-take zero xs a i = omega arith
-bytes-take (suc n) [] a i = omega arith
-bytes-take (suc n) (x ∷ xs) a zero = a 0
-bytes-take (suc n) (x ∷ xs) a (suc i) = bytes-take n xs (λ k. a (suc k)) i
-
-bytes-drop : (n : ℕ) (xs : List ℕ) → Bytes xs → Bytes (drop n xs)
-bytes-drop n xs a i = rw (getD-drop n xs i 0) (a (n + i))
+-- ---- zeros
 
 pub zero-at : (n i : ℕ) → getD (zeros n) i 0 ≡ 0
 zero-at zero i = refl
@@ -53,27 +39,17 @@ zero-at (suc n) (suc i) = zero-at n i
 pub bytes-zeros : (n : ℕ) → Bytes (zeros n)
 bytes-zeros n i = omega (arith, zero-at n i)
 
-bytes-put : (xs : List ℕ) (at : ℕ) (ys : List ℕ) → Bytes xs → Bytes ys → Bytes (put xs at ys)
-bytes-put xs at ys a b =
-    bytes-append (take at xs) (ys ++ drop (length ys) (drop at xs)) (bytes-take at xs a)
-    (bytes-append ys (drop (length ys) (drop at xs)) b (bytes-drop (length ys) (drop at xs) (bytes-drop at xs a)))
-
-pub bytes-part : (xs : List ℕ) (at n : ℕ) → Bytes xs → Bytes (part xs at n)
-bytes-part xs at n a = bytes-take n (drop at xs) (bytes-drop at xs a)
-
 -- ---- a blank session of an accepted header
 
-let-through : (cs : List Check) (good : HeaderRead) (h : Head) → checked cs refusedHeader good ≡ acceptedHeader h → Passed cs × (good ≡ acceptedHeader h)
-let-through [] good h e = (tt, e)
-let-through ((true, k) ∷ cs) good h e =
-    let v : _≡_ {A = Checked} (Wrong (reasonOf k)) Good = ap (λ (r : HeaderRead). r .verdict) e in
-    absurd (let z : _≡_ {A = ℕ} 0 1 = cc in omega arith)
-let-through ((false, k) ∷ cs) good h e = let p = let-through cs good h e in ((refl, p .0), p .1)
+no-refusal : (r : Reason) (h : Head) → refusedHeader r ≡ acceptedHeader h → ⊥
+no-refusal r h e =
+    let v : _≡_ {A = Checked} (Wrong r) Good = ap (λ (x : HeaderRead). x .verdict) e in
+    let z : _≡_ {A = ℕ} 0 1 = cc in omega arith
 
 pub accepted-shape : (b : List ℕ) (h : Head) → readHeader b ≡ acceptedHeader h → shapeWrong (h .size) (h .n) (h .m) (h .s) ≡ false
 unfolding readHeader shapeWrong
 accepted-shape b h e =
-    let t = let-through (headerChecks b) (acceptedHeader (headOf (regionOf b))) h e in
+    let t = let-through refusedHeader (headerChecks b) (acceptedHeader (headOf (regionOf b))) (acceptedHeader h) (λ r. no-refusal r h) e in
     let u = t .0 .1 .1 .1 .1 .1 in
     subst (λ (g : Head). shapeWrong (g .size) (g .n) (g .m) (g .s) ≡ false) (ap (λ (r : HeaderRead). r .head) (t .1)) (rw (u .0, u .1 .0))
 

@@ -1,22 +1,20 @@
 -- The chunks of a written file, offered in any order and with repeats: what each offer answers, what is held then, and that
 -- the hand-out gives the content. Assumes nothing.
-use Prim.Native.Nat.{ℕ, zero, suc, _+_, _-_, _*_, _/_, _%_, _≤_, _<_}
+use Prim.Native.Nat.{ℕ, zero, suc, _+_, _-_, _*_, _/_, _≤_, _<_}
 use mathlib.Core.Path.{_≡_, refl, sym, ap, ap₂, _∙_, subst}
-use mathlib.Core.Bool.{Bool, true, false, cond, _||_}
+use mathlib.Core.Bool.{Bool, true, false, cond, _||_, false≢true, or-false}
 use mathlib.Core.List.{List, [], _∷_, _++_, map, append-nil}
 use native.Mathlib.Decide.{ℕ-discrete}
 use native.Mathlib.Omega.{arith}
-use borrow.Author.Tests.{eq-eqb, ne-eqb, ltb-true}
+use borrow.Author.Tests.{eq-eqb, ne-eqb}
 use lib.Dec.{eqb, ltb}
 use lib.ListN.{length, getD, take}
 use lib.Seq.{take-at}
 use Rattle.little.specs.Fields.{Bytes, bytesOf}
 use Rattle.little.specs.Parts.{put, block}
-use Rattle.little.proofs.PartLaws.{length-block}
-use Rattle.little.proofs.FieldLaws.{laws}
+use Rattle.little.proofs.FieldLaws.{laws, bytes-append, bytes-part}
 use Rattle.blake3.specs.Tree.{hash}
 use Rattle.cauchy.specs.Code.{joined, recoveryWord, recoveryBlock, codeBlock}
-use Rattle.cauchy.proofs.CodeLaws.{length-recovery}
 use Rattle.sfc.specs.Bytes.{any, zeros, same}
 use Rattle.sfc.specs.Numbers.{verdict}
 use Rattle.sfc.specs.Limits.{shapeWrong}
@@ -37,15 +35,14 @@ use Rattle.sfc.specs.declared.session.Verdict.{Verdict}
 use Rattle.sfc.specs.declared.session.Verdict.the-variants.{Fresh, Repeat}
 use Rattle.sfc.specs.declared.handout.HandedOut.{HandedOut}
 use Rattle.sfc.specs.declared.handout.HandedOut.the-variants.{Complete}
-use Rattle.sfc.proofs.RunLaws.{same-refl, true≢false}
+use Rattle.sfc.proofs.RunLaws.{same-refl}
 use Rattle.sfc.proofs.MarkLaws.{RightShape, right-shape}
 use Rattle.sfc.proofs.SessionLaws.{RightLent, right-lent, verdict-fresh, verdict-repeat}
 use Rattle.sfc.proofs.HistoryLaws.{after-tallies, total-counted, not-full}
 use Rattle.sfc.proofs.OfferLaws.{one-offer}
-use Rattle.sfc.proofs.LimitLaws.{wanted-holds}
-use Rattle.sfc.proofs.RightLaws.{bytes-append, bytes-zeros, bytes-part, zero-at, blank-right, after-right}
+use Rattle.sfc.proofs.RightLaws.{bytes-zeros, zero-at, blank-right, after-right}
 use Rattle.sfc.proofs.Demand3.{demand3}
-use Rattle.sfc.proofs.LayoutLaws.{length-padded}
+use Rattle.sfc.proofs.LengthLaws.{length-data, length-payload}
 use Rattle.sfc.proofs.DifferentLaws.{held-different}
 use Rattle.sfc.proofs.ChunkBack.{Made, index-back, payload-back, chunk-good}
 
@@ -55,15 +52,6 @@ bytes-joined : (f : ℕ → List ℕ) (c n : ℕ) → ((k : ℕ) → Bytes (f k)
 unfolding joined
 bytes-joined f c zero b = λ i. omega arith
 bytes-joined f c (suc n) b = bytes-append (f c) (joined f (suc c) n) (b c) (bytes-joined f (suc c) n b)
-
--- a block of the code has s bytes, whatever the data are
-length-code : (n m s : ℕ) (d : List ℕ) (i : ℕ) → s % 2 ≡ 0 → length d ≡ n * s → length (codeBlock n m s d i) ≡ s
-unfolding codeBlock
-length-code n m s d i even l = go (ltb i n) refl
-  where
-    go : (b : Bool) → ltb i n ≡ b → length (cond b (block s d i) (recoveryBlock n m s d (i - n))) ≡ s
-    go true e = length-block s n d l i (ltb-true i n e)
-    go false e = length-recovery n m s d (i - n) even
 
 bytes-code : (n m s : ℕ) (d : List ℕ) (i : ℕ) → Bytes d → Bytes (codeBlock n m s d i)
 unfolding codeBlock recoveryBlock
@@ -77,10 +65,6 @@ module _ (w : Input) (u : length (w .uuid) ≡ 16) (sh : shapeWrong (size w) (bl
   right : RightShape (size w) (blocks w) (w .m) (w .s)
   right = right-shape (size w) (blocks w) (w .m) (w .s) sh
 
-  length-data : length (dataOf w) ≡ blocks w * w .s
-  unfolding dataOf
-  length-data = length-padded (blocks w * w .s) (w .content) (wanted-holds (size w) (w .s) (omega (arith, right .s-least)) .1)
-
   bytes-data : Bytes (w .content) → Bytes (dataOf w)
   unfolding dataOf
   bytes-data b = bytes-append (w .content) (zeros (blocks w * w .s - size w)) b (bytes-zeros (blocks w * w .s - size w))
@@ -88,10 +72,6 @@ module _ (w : Input) (u : length (w .uuid) ≡ 16) (sh : shapeWrong (size w) (bl
   content-first : take (size w) (dataOf w) ≡ w .content
   unfolding dataOf
   content-first = take-at (w .content) _ (size w) refl
-
-  pub length-payload : (i : ℕ) → length (payload w i) ≡ w .s
-  unfolding payload
-  length-payload i = length-code (blocks w) (w .m) (w .s) (dataOf w) i (right .s-even) length-data
 
   pub made : (i : ℕ) → i < blocks w + w .m → Made (headFor w) i (payload w i)
   made i h = record {
@@ -101,7 +81,7 @@ module _ (w : Input) (u : length (w .uuid) ≡ 16) (sh : shapeWrong (size w) (bl
     s-small = omega (arith, right .s-most);
     all-small = omega (arith, right .n-most, right .m-most);
     inside = h;
-    payload-long = length-payload i;
+    payload-long = length-payload w sh i;
   }
 
   -- a chunk of the file, with anything behind it
@@ -124,10 +104,10 @@ module _ (w : Input) (u : length (w .uuid) ≡ 16) (sh : shapeWrong (size w) (bl
   -- ---- one offer
 
   -- the blocks at the indices of p are held, as they are in the file, and no others
-  record Holds (x : Session) (p : ℕ → Bool) : Type 0 where
-    right : Right (headFor w) x
-    marks : (j : ℕ) → j < blocks w + w .m → mark x j ≡ cond (p j) 1 0
-    held : (j : ℕ) → j < blocks w + w .m → p j ≡ true → blockOf (headFor w) x j ≡ payload w j
+  pub record Holds (x : Session) (p : ℕ → Bool) : Type 0 where
+    pub right : Right (headFor w) x
+    pub marks : (j : ℕ) → j < blocks w + w .m → mark x j ≡ cond (p j) 1 0
+    pub held : (j : ℕ) → j < blocks w + w .m → p j ≡ true → blockOf (headFor w) x j ≡ payload w j
 
   -- what such a chunk is answered
   abbrev welcome : ℕ → Bool → Verdict
@@ -248,7 +228,7 @@ module _ (w : Input) (u : length (w .uuid) ≡ 16) (sh : shapeWrong (size w) (bl
     blank-holds = record {
       right = blank-right (headFor w) sh;
       marks = λ j u. zero-at (blocks w + w .m) j;
-      held = λ j u t. true≢false (sym t);
+      held = λ j u t. absurd (false≢true t);
     }
 
     module _ (is : List ℕ) (a : AllBelow (blocks w + w .m) is) (few : length is ≤ 4294967295) where
@@ -260,14 +240,10 @@ module _ (w : Input) (u : length (w .uuid) ≡ 16) (sh : shapeWrong (size w) (bl
       unfolding any
       offers-answered = all-answered is (blank (headFor w)) [] a blank-room blank-holds
 
-      received-holds : Holds (received w is) (λ j. among j is)
+      pub received-holds : Holds (received w is) (λ j. among j is)
       received-holds =
-          same-holds (received w is) (λ j. among j is || false) (λ j. among j is) (λ j. or-none (among j is))
+          same-holds (received w is) (λ j. among j is || false) (λ j. among j is) (λ j. or-false (among j is))
           (all-hold is (blank (headFor w)) (λ j. false) a blank-room blank-holds)
-        where
-          or-none : (t : Bool) → (t || false) ≡ t
-          or-none true = refl
-          or-none false = refl
 
       -- ---- the hand-out
 
@@ -283,7 +259,7 @@ module _ (w : Input) (u : length (w .uuid) ≡ 16) (sh : shapeWrong (size w) (bl
 
       fitting : Fitting (headFor w) (received w is) (dataOf w)
       unfolding payload
-      fitting = record { blocks = (length-data, bytes-data b); fits = λ i h o. sym (received-holds .held i h (at i h o (among i is) refl)) }
+      fitting = record { blocks = (length-data w sh, bytes-data b); fits = λ i h o. sym (received-holds .held i h (at i h o (among i is) refl)) }
         where
           at : (j : ℕ) → j < blocks w + w .m → mark (received w is) j ≡ 1 → (t : Bool) → among j is ≡ t → among j is ≡ true
           at j h o true e = e

@@ -1,23 +1,16 @@
 -- `same` decides whether two lists are equal, and a turn of the loops over runs and marks. Assumes nothing.
-use Prim.Native.Nat.{ℕ, suc, _-_, _<_, _≤_}
+use Prim.Native.Nat.{ℕ, _-_, _<_, _≤_}
 use mathlib.Core.Path.{_≡_, refl, sym, ap, ap₂, _∙_}
 use mathlib.Core.List.{List, [], _∷_}
-use mathlib.Core.Bool.{Bool, true, false, _&&_}
+use mathlib.Core.Bool.{Bool, true, false, _&&_, true≢false, false≢true}
 use native.Mathlib.Omega.{arith}
 use borrow.Author.Tests.{eq-eqb, eqb-true}
 use lib.Dec.{eqb}
 use lib.ListN.{length, getD, drop}
 use lib.Seq.{drop-length}
 use Rattle.little.proofs.PartLaws.{drop-down}
+use Rattle.little.proofs.TestLaws.{and-both}
 use Rattle.sfc.specs.Bytes.{same}
-
-pub true≢false : {A : Type 0} → true ≡ false → A
-true≢false e = absurd (let z : _≡_ {A = ℕ} 0 1 = cc in omega arith)
-
-pub and-true : (a b : Bool) → (a && b) ≡ true → (a ≡ true) × (b ≡ true)
-and-true true true e = (refl, refl)
-and-true true false e = true≢false (sym e)
-and-true false b e = true≢false (sym e)
 
 pub same-refl : (a : List ℕ) → same a a ≡ true
 unfolding same
@@ -27,10 +20,10 @@ same-refl (x ∷ xs) = rw (eq-eqb x x refl, same-refl xs)
 pub same-eq : (a b : List ℕ) → same a b ≡ true → a ≡ b
 unfolding same
 same-eq [] [] e = refl
-same-eq [] (y ∷ ys) e = true≢false (sym e)
-same-eq (x ∷ xs) [] e = true≢false (sym e)
+same-eq [] (y ∷ ys) e = absurd (false≢true e)
+same-eq (x ∷ xs) [] e = absurd (false≢true e)
 same-eq (x ∷ xs) (y ∷ ys) e =
-    let h = and-true (eqb x y) (same xs ys) e in
+    let h = and-both (eqb x y) (same xs ys) e in
     ap₂ _∷_ (eqb-true x y (h .0)) (same-eq xs ys (h .1))
 
 pub same-differ : (a b : List ℕ) → (a ≡ b → ⊥) → same a b ≡ false

@@ -1,33 +1,34 @@
 -- What an offer comes to, by its cases; what 71 and the chunk's checks let through. Assumes nothing.
-use Prim.Native.Nat.{ℕ, zero, suc, _+_, _-_, _*_, _%_, _<_, _≤_}
+use Prim.Native.Nat.{ℕ, zero, suc, _+_, _-_, _*_, _<_, _≤_}
 use mathlib.Core.Path.{_≡_, refl, sym, ap, ap₂, _∙_, subst}
-use mathlib.Core.Bool.{Bool, true, false, cond, not, _&&_, _||_}
+use mathlib.Core.Bool.{Bool, true, false, not, _&&_}
 use mathlib.Core.List.{List, [], _∷_, _++_}
 use native.Mathlib.Omega.{arith}
 use borrow.Author.Tests.{eq-eqb, ne-eqb, eqb-true, ltb-false, leb-true, leb-false, not-false}
-use lib.Dec.{T, eqb, ltb, leb}
-use lib.ListN.{length, getD, set, take, drop, length-replicate}
+use lib.Dec.{T, eqb, leb}
+use lib.ListN.{length, set, take, drop, length-replicate}
 use Rattle.little.specs.Parts.{part, put, block, putBlock}
 use Rattle.little.proofs.PartLaws.{lent, length-part, put-same, block-inside}
+use Rattle.little.proofs.TestLaws.{or-false}
 use Rattle.sfc.specs.Bytes.{zeros, same}
 use Rattle.sfc.specs.Numbers.{Check, checked, verdict, numberOf, reasonOf}
 use Rattle.sfc.specs.Marks.{marksFit, marksWrong}
 use Rattle.sfc.specs.Chunk.{indexOf, payloadLength, payloadOf, chunkLength, chunkChecks, number, place}
 use Rattle.sfc.specs.Tallies.{tallyFull, countedRefusal, counted}
-use Rattle.sfc.specs.Session.{Session, mark, blockOf, lentWrong, sessionWrong, markChecks, welcomed, verdictOf, withBlock, settled, tallied, after, Offered, offered}
+use Rattle.sfc.specs.Session.{Session, mark, blockOf, lentWrong, sessionWrong, markChecks, welcomed, verdictOf, settled, tallied, after, Offered, offered}
 use Rattle.sfc.specs.Steps.{Stepped, stepped, Welcome}
 use Rattle.sfc.specs.declared.header.Head.{Head}
 use Rattle.sfc.specs.declared.tallies.Tallies.{Tallies}
 use Rattle.sfc.specs.declared.reason.Reason.{Reason}
 use Rattle.sfc.specs.declared.reason.Reason.the-variants.{Lent, TallyFull, Conflict, Barred}
-use Rattle.sfc.specs.declared.reason.Checked.the-variants.{Good, Refused as Wrong}
+use Rattle.sfc.specs.declared.reason.Checked.the-variants.{Refused as Wrong}
 use Rattle.sfc.specs.declared.session.Verdict.{Verdict}
 use Rattle.sfc.specs.declared.session.Verdict.the-variants.{Fresh, Repeat, Refused}
 use Rattle.sfc.specs.declared.session.Step.{Step}
 use Rattle.sfc.specs.declared.session.Step.the-variants.{Laid, Copy, Differs, Barred as StepBarred}
 use Rattle.sfc.proofs.CheckLaws.{passed, good-then, refused-then}
 use Rattle.sfc.proofs.MarkLaws.{RightShape, right-marks, fit-at}
-use Rattle.sfc.proofs.HeaderLaws.{or-false, copied}
+use Rattle.sfc.proofs.HeaderLaws.{copied}
 
 -- ---- what 71 lets through
 

@@ -60,8 +60,9 @@ pub record Demand1 : Type 0 where
   -- A header: 10 to 23, and of the head nothing but zeros.
   pub header-refused : (b : List ℕ) (r : Reason) → readHeader b .verdict ≡ Refused r
       → (10 ≤ numberOf r) × (numberOf r ≤ 23) × (readHeader b ≡ refusedHeader r)
-  -- A chunk by itself: 30 to 40.
-  pub chunk-refused : (h : Head) (c : List ℕ) (r : Reason) → checkChunk h c ≡ NoChunk r → (30 ≤ numberOf r) × (numberOf r ≤ 40)
+  -- A chunk by itself: 71 or 30 to 40.
+  pub chunk-refused : (h : Head) (c : List ℕ) (r : Reason) → checkChunk h c ≡ NoChunk r
+      → OneOf r (71 ∷ 30 ∷ 31 ∷ 32 ∷ 33 ∷ 34 ∷ 35 ∷ 36 ∷ 37 ∷ 38 ∷ 39 ∷ 40 ∷ [])
   -- The place of a field: there is no refusal, and what is found lies in the input.
   pub field-inside : (b : List ℕ) (tag p long : ℕ) → findField b tag ≡ At (place p) long → p + long ≤ length b
   -- An offer: 71, 43 or 30 to 42. By 71 and 43 nothing changes at all; any other adds one to its own tally. Store and marks stay

@@ -1,6 +1,7 @@
 // The check of a chunk by itself, against the header and before the session.
 use crate::checks::refuse_if;
 use crate::header::Head;
+use crate::limits::is_shape_wrong;
 use crate::places::BlockNumber;
 use crate::places::BytePlace;
 use crate::reason::Checked;
@@ -8,10 +9,9 @@ use crate::reason::Reason;
 use crate::text::stands_at;
 ghost use mathlib.Core.Path.{_≡_};
 ghost use Prim.Native.Nat.{_+_, _≤_};
-ghost use mathlib.Core.List.{_++_};
 ghost use lib.ListN.{length};
 ghost use Rattle.sfc.specs.Numbers.{verdict};
-ghost use Rattle.sfc.specs.Chunk.{payloadLength, typeFor, lengthChecks, sealChecks, kinChecks, chunkChecks, checkChunk};
+ghost use Rattle.sfc.specs.Chunk.{payloadLength, typeFor, lengthChecks, sealChecks, kinChecks, chunkChecks, frontLength, checkChunk};
 
 // A whole chunk: its index, and the place in it where the payload begins.
 pub enum ChunkChecked {
@@ -20,7 +20,7 @@ pub enum ChunkChecked {
 }
 
 // 30, 31, 32, 30: what must hold before the rest can be looked at.
-pub fn check_length(s: u32, c: &[u8]) -> Checked
+fn check_length(s: u32, c: &[u8]) -> Checked
     ensures { λ r. ⌜ r ≡ verdict (lengthChecks s (now (c .entry))) ⌝ }
 {
     let payload = little::read32(c, 28);
@@ -36,6 +36,17 @@ pub fn check_length(s: u32, c: &[u8]) -> Checked
     );
     let magic = refuse_if(!stands_at(c, 0, b"CHK\0"), Reason::ChunkMagic, long);
     refuse_if(c.len() < 48, Reason::ChunkShort, magic)
+}
+
+// How many bytes the chunk at the front takes up; 0 where 30, 31 or 32 says that none is to be found there.
+pub fn front_length(s: u32, b: &[u8]) -> usize
+    ensures { λ r. ⌜ r ≡ frontLength s (now (b .entry)) ⌝ }
+{
+    let checked = check_length(s, b);
+    match checked {
+        Checked::Refused(_) => 0,
+        Checked::Good => 84 + little::read32(b, 28) as usize,
+    }
 }
 
 // 33 and 34.
@@ -102,10 +113,13 @@ pub(crate) fn check_all(h: Head, c: &[u8]) -> Checked
     }
 }
 
-// Bytes behind a whole chunk are not read.
+// Bytes behind a whole chunk are not read. The head of a refused header has N = 0, and is refused by 71.
 pub fn check_chunk(h: Head, c: &[u8]) -> ChunkChecked
     ensures { λ r. ⌜ r ≡ checkChunk h (now (c .entry)) ⌝ }
 {
+    if is_shape_wrong(h.size, h.n, h.m, h.s) {
+        return ChunkChecked::Refused(Reason::Lent);
+    }
     let verdict = check_all(h, c);
     match verdict {
         Checked::Refused(reason) => ChunkChecked::Refused(reason),

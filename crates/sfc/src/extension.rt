@@ -1,8 +1,8 @@
 // The extension fields of a header region.
 ghost use mathlib.Core.Path.{_≡_};
-ghost use Prim.Native.Nat.{ℕ, _+_, _^_, _<_};
+ghost use Prim.Native.Nat.{_+_, _^_, _<_};
 ghost use Rattle.sfc.specs.Extension.{ruleBroken, extensionWrong};
-ghost use Rattle.sfc.specs.Writer.{hasSplit};
+ghost use Rattle.sfc.specs.Writer.{hasReserved};
 
 // Whether a field with this tag and length breaks a rule.
 fn breaks_rule(blocks: u64, flags: u16, tag: u16, length: u64) -> bool
@@ -43,9 +43,9 @@ pub(crate) fn are_fields_wrong(blocks: u64, flags: u16, e: &[u8]) -> bool
     at < e.len()
 }
 
-// Whether a field of the split transport is among them, which the writer does not write.
-pub(crate) fn has_split(e: &[u8]) -> bool
-    ensures { λ r. ⌜ r ≡ hasSplit (now (e .entry)) ⌝ }
+// Whether a field with a reserved tag is among them, which the writer does not write.
+pub(crate) fn has_reserved(e: &[u8]) -> bool
+    ensures { λ r. ⌜ r ≡ hasReserved (now (e .entry)) ⌝ }
 {
     let mut at = 0;
     let mut most = e.len();

@@ -3,7 +3,7 @@
 use crate::limits::least;
 use blake3::Running;
 ghost use mathlib.Core.Path.{_≡_};
-ghost use Prim.Native.Nat.{_+_, _≤_, _^_};
+ghost use Prim.Native.Nat.{_+_, _≤_};
 ghost use lib.ListN.{length, take};
 ghost use Rattle.little.specs.Parts.{put};
 ghost use Rattle.blake3.specs.Tree as tree;

@@ -48,10 +48,10 @@ fn check_start(b: &[u8]) -> Checked
 {
     let h = little::read32(b, 8);
     let short = b.len() < h as usize + 76;
-    let version = (little::read16(b, 4) != 0) | (little::read16(b, 6) != 1);
+    let other = (little::read16(b, 4) != 0) | (little::read16(b, 6) != 1);
     let last = refuse_if(short, Reason::HeaderShort, Checked::Good);
     let length = refuse_if(is_length_wrong(h), Reason::HeaderLength, last);
-    let version = refuse_if(version, Reason::Version, length);
+    let version = refuse_if(other, Reason::Version, length);
     let magic = refuse_if(!stands_at(b, 0, b"SFC\0"), Reason::HeaderMagic, version);
     refuse_if(b.len() < 12, Reason::HeaderShort, magic)
 }

@@ -4,7 +4,7 @@ use crate::runs::clear;
 ghost use mathlib.Core.Path.{_≡_};
 ghost use mathlib.Core.Bool.{false};
 ghost use mathlib.Core.List.{_++_};
-ghost use Prim.Native.Nat.{_+_, _-_, _*_, _^_, _<_, _≤_};
+ghost use Prim.Native.Nat.{_+_, _-_, _*_, _<_, _≤_};
 ghost use lib.ListN.{length, take};
 ghost use Rattle.little.specs.Parts.{block};
 ghost use Rattle.cauchy.specs.Code.{joined, recoveryBlock, codeBlock};

@@ -3,7 +3,7 @@ use crate::limits::is_length_wrong;
 use crate::limits::least;
 use crate::places::BytePlace;
 ghost use mathlib.Core.Path.{_≡_};
-ghost use Prim.Native.Nat.{ℕ, _+_, _<_, _^_};
+ghost use Prim.Native.Nat.{_+_, _<_, _^_};
 ghost use lib.ListN.{length};
 ghost use Rattle.sfc.specs.Lookup.{foundIn, findField};
 

@@ -14,10 +14,10 @@ use crate::tallies::with_fresh;
 use crate::tallies::with_refusal;
 use crate::tallies::with_repeat;
 ghost use mathlib.Core.Path.{_≡_};
-ghost use mathlib.Core.Bool.{true, false};
-ghost use Prim.Native.Nat.{_+_, _*_, _<_, _≤_};
+ghost use mathlib.Core.Bool.{true};
+ghost use Prim.Native.Nat.{_+_, _*_};
 ghost use lib.ListN.{length};
-ghost use Rattle.sfc.specs.Session.{Session, Offered, offered, lentWrong};
+ghost use Rattle.sfc.specs.Session.{Offered, offered, lentWrong};
 ghost use Rattle.sfc.specs.Steps.{Stepped, stepped, Welcome};
 
 // What an offer came to: the block, and its place in the store; or the reason of a refusal.

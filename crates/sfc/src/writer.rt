@@ -1,6 +1,6 @@
 // The writer: a whole file from a content and what the caller says of it.
 use crate::extension::are_fields_wrong;
-use crate::extension::has_split;
+use crate::extension::has_reserved;
 use crate::layout::put_chunks;
 use crate::layout::put_identity;
 use crate::layout::put_indices;
@@ -58,7 +58,7 @@ fn is_input_wrong(
     let h = 331 + 4 * priority.len() + fields.len();
     is_name_wrong(name)
         | (65536 < h)
-        | has_split(fields)
+        | has_reserved(fields)
         | is_shape_wrong(size, n, m, s)
         | are_flags_barred(flags)
         | !is_distinct_below(priority, n)

@@ -1,11 +1,10 @@
 -- `sfc::block::block` meets its contract, by its five answers. Assumes nothing.
-use mathlib.Core.Path.{_≡_, refl, sym, _∙_, ap}
+use mathlib.Core.Path.{_∙_, ap}
 use native.Mathlib.Omega.{arith}
 use borrow.Author.Tests.{lt-ltb, le-ltb, le-leb, lt-leb}
 use lib.ListN.{length}
 use Rattle.little.proofs.PartLaws.{block-inside}
 use Rattle.sfc.specs.Bytes.{zeros}
-use Rattle.sfc.specs.HandOut.{Lent}
 use Rattle.sfc.proofs.HandOutLaws.{rebuild-told, right-rebuild, cut-right, blocked-wrong, blocked-none, blocked-short, blocked-few, blocked-given}
 use borrow.Author.Needs.{needs}
 use Rattle.sfc.proofs.block.block.Statement.{statement}

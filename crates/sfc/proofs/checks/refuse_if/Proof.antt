@@ -1,5 +1,4 @@
 -- `sfc::checks::refuse_if` meets its contract, by the test. Assumes nothing.
-use borrow.Author.Needs.{needs}
 use Rattle.sfc.proofs.checks.refuse_if.Statement.{statement}
 use Rattle.sfc.proofs.checks.refuse_if.Tie as tie
 

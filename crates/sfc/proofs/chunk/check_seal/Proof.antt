@@ -2,7 +2,6 @@
 use mathlib.Core.Path.{sym}
 use native.Mathlib.Omega.{arith}
 use lib.Seq.{length-take-le}
-use Rattle.sfc.specs.Chunk.{payloadLength}
 use borrow.Author.Needs.{needs}
 use Rattle.sfc.proofs.chunk.check_seal.Statement.{statement}
 use Rattle.sfc.proofs.chunk.check_seal.Tie as tie

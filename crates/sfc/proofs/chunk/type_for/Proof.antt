@@ -1,6 +1,5 @@
 -- `sfc::chunk::type_for` meets its contract, by the test. Assumes nothing.
 use borrow.Author.Tests.{lt-ltb, le-ltb}
-use borrow.Author.Needs.{needs}
 use Rattle.sfc.proofs.chunk.type_for.Statement.{statement}
 use Rattle.sfc.proofs.chunk.type_for.Tie as tie
 

@@ -1,8 +1,5 @@
 -- `sfc::extension::are_fields_wrong` meets its contract. The loop's invariant: what is left to find wrong is what is wrong with the whole. Assumes nothing.
-use Prim.Native.Nat.{ℕ, _+_, _-_, _*_, _≤_}
-use mathlib.Core.Path.{_≡_}
 use native.Mathlib.Omega.{arith}
-use lib.ListN.{length}
 use Rattle.little.proofs.PartLaws.{part-rest}
 use Rattle.sfc.proofs.ExtensionLaws.{At, at-start, at-inside, at-end, at-cut-head, at-cut-value, at-broken, at-next}
 use borrow.Author.Needs.{needs}

@@ -1,10 +1,9 @@
 -- `sfc::gather::content_hash` meets its contract. The loop's invariant: what is fed, and what is still to be fed, make up
 -- the content. Assumes nothing.
-use Prim.Native.Nat.{_+_, _-_, _*_, _≤_}
-use mathlib.Core.Path.{_≡_, refl, sym, _∙_, ap}
+use Prim.Native.Nat.{_+_, _-_, _*_}
+use mathlib.Core.Path.{sym, _∙_, ap}
 use mathlib.Core.Logic.{⊎-elim}
 use native.Mathlib.Omega.{arith}
-use lib.ListN.{length, take}
 use Rattle.blake3.specs.Running.{withBytes}
 use Rattle.blake3.specs.declared.running.Finished.{Finished}
 use Rattle.sfc.proofs.GatherLaws.{Feeding, feeding-start, feeding-next, feeding-end, block-small, before-end, count-most, next-from, block-in-store, held-part, in-scratch, lost-part, few-enough, cut-most, rank-held, rank-lost}

@@ -1,9 +1,9 @@
 -- `sfc::gather::copy_content` meets its contract. The loop's invariant: what is still to be copied, put into the output,
 -- gives the promised one. Assumes nothing.
 use Prim.Native.Nat.{_+_, _-_, _*_, _≤_}
-use mathlib.Core.Path.{_≡_, refl, sym, _∙_, ap}
+use mathlib.Core.Path.{sym, _∙_, ap}
 use native.Mathlib.Omega.{arith}
-use lib.ListN.{length, take}
+use lib.ListN.{length}
 use Rattle.little.specs.Parts.{part}
 use Rattle.sfc.proofs.GatherLaws.{in-case, Copying, copying-start, copying-next, copying-end, block-small, before-end, count-most, in-store, in-cut, cut-long, held-part, in-scratch, lost-part, held-long, lost-long, rank-held, rank-lost}
 use borrow.Author.Needs.{needs}

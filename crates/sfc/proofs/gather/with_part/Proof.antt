@@ -1,5 +1,5 @@
 -- `sfc::gather::with_part` meets its contract: so few bytes are never refused. Assumes nothing.
-use mathlib.Core.Path.{_≡_, _∙_, ap}
+use mathlib.Core.Path.{_∙_, ap}
 use Rattle.blake3.proofs.AnyCut.{fed-within}
 use Rattle.blake3.specs.declared.running.Fed.{Fed}
 use borrow.Author.Needs.{needs}

@@ -1,20 +1,18 @@
 -- `sfc::handout::give_checked` meets its contract: what is hashed is what is copied. Assumes nothing.
-use mathlib.Core.Path.{_≡_, sym, _∙_, ap, refl}
-use mathlib.Core.Bool.{Bool, true, false, not}
+use borrow.Author.Tests.{not-true, not-false}
+use mathlib.Core.Path.{_∙_, ap, refl, sym}
 use mathlib.Core.List.{List}
 use Prim.Native.Nat.{ℕ}
-use native.Mathlib.Omega.{arith}
 use Rattle.sfc.specs.Bytes.{same}
-use Rattle.sfc.proofs.HandOutLaws.{was-not, was}
 use borrow.Author.Needs.{needs}
 use Rattle.sfc.proofs.handout.give_checked.Statement.{statement}
 use Rattle.sfc.proofs.handout.give_checked.Tie as tie
 
 returns : tie.Need-returns
-returns c = (was-not _ (c .if1 .taken) ∙ c .before .is-same .ensures ∙ ap (λ (x : List ℕ). same x (c .before .before .before .before .before .before .before .before .before .args .t2)) (c .before .before .before .before .content-hash .ensures), refl)
+returns c = (sym (not-true _ (c .if1 .taken)) ∙ c .before .is-same .ensures ∙ ap (λ (x : List ℕ). same x (c .before .before .before .before .before .before .before .before .before .args .t2)) (c .before .before .before .before .content-hash .ensures), refl)
 
 returns-2 : tie.Need-returns-2
-returns-2 c = (was _ (c .before .before .before .before .if1 .left) ∙ c .before .before .before .before .before .is-same .ensures ∙ ap (λ (x : List ℕ). same x (c .before .before .before .before .before .before .before .before .before .before .before .before .before .args .t2)) (c .before .before .before .before .before .before .before .before .content-hash .ensures), c .before .before .copy-content .ensures)
+returns-2 c = (sym (not-false _ (c .before .before .before .before .if1 .left)) ∙ c .before .before .before .before .before .is-same .ensures ∙ ap (λ (x : List ℕ). same x (c .before .before .before .before .before .before .before .before .before .before .before .before .before .args .t2)) (c .before .before .before .before .before .before .before .before .content-hash .ensures), c .before .before .copy-content .ensures)
 
 pub give-checked-spec : {M : Type 1} → statement M
 give-checked-spec =

@@ -1,8 +1,6 @@
 -- `sfc::handout::give_content` meets its contract, by its three answers. Assumes nothing.
-use mathlib.Core.Path.{_≡_, refl, sym, _∙_}
-use native.Mathlib.Omega.{arith}
-use Rattle.sfc.specs.HandOut.{Lent}
-use Rattle.sfc.proofs.HandOutLaws.{right-rebuild, cut-right, size-small, few-told, enough-told, was-true, given-few, given-not, given-all}
+use borrow.Author.Tests.{not-false}
+use Rattle.sfc.proofs.HandOutLaws.{right-rebuild, cut-right, size-small, few-told, enough-told, given-few, given-not, given-all}
 use borrow.Author.Needs.{needs}
 use Rattle.sfc.proofs.handout.give_content.Statement.{statement}
 use Rattle.sfc.proofs.handout.give_content.Tie as tie
@@ -17,7 +15,7 @@ give-checked-requires : tie.Need-give-checked-requires
 give-checked-requires c κs =
     let a = c .before .before .before .before .before .before .before .before .before .before .before .before .before .before .before .before .before .before .before in
     let r = right-rebuild (a .args .h) (a .args .store .now) (a .args .marks .now) (record { scratch = a .args .scratch .now; numbers = a .args .numbers .now; output = a .args .out .now }) (a .pre .0) in
-    (cut-right (a .args .h .size) (a .args .h .n) (a .args .h .m) (a .args .h .s) (r .right .shape), c .before .before .before .before .before .before .before .before .before .before .before .rebuild-missing .ensures .1 (was-true _ (c .before .before .before .before .before .before .if1 .left)), a .pre .1)
+    (cut-right (a .args .h .size) (a .args .h .n) (a .args .h .m) (a .args .h .s) (r .right .shape), c .before .before .before .before .before .before .before .before .before .before .before .rebuild-missing .ensures .1 (not-false _ (c .before .before .before .before .before .before .if1 .left)), a .pre .1)
 
 returns-2 : tie.Need-returns-2
 returns-2 c =

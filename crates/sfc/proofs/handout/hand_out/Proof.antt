@@ -1,10 +1,9 @@
 -- `sfc::handout::hand_out` meets its contract, by its three answers. Assumes nothing.
-use mathlib.Core.Path.{_≡_, refl, sym, _∙_, ap}
+use mathlib.Core.Path.{_∙_, ap}
 use native.Mathlib.Omega.{arith}
 use borrow.Author.Tests.{lt-ltb, le-ltb}
 use lib.ListN.{length}
 use Rattle.sfc.specs.Bytes.{zeros}
-use Rattle.sfc.specs.HandOut.{Lent}
 use Rattle.sfc.proofs.HandOutLaws.{rebuild-told, handed-wrong, handed-short, handed-given}
 use borrow.Author.Needs.{needs}
 use Rattle.sfc.proofs.handout.hand_out.Statement.{statement}

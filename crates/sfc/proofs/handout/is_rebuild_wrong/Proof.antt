@@ -1,5 +1,5 @@
 -- `sfc::handout::is_rebuild_wrong` meets its contract. Assumes nothing.
-use mathlib.Core.Path.{_≡_, sym, _∙_}
+use mathlib.Core.Path.{sym, _∙_}
 use Rattle.sfc.proofs.HandOutLaws.{wrong-first, wrong-rest, scratch-small}
 use borrow.Author.Needs.{needs}
 use Rattle.sfc.proofs.handout.is_rebuild_wrong.Statement.{statement}

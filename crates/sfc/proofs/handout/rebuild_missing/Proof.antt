@@ -1,6 +1,5 @@
 -- `sfc::handout::rebuild_missing` meets its contract, by the three answers of the code's call. Assumes nothing.
-use mathlib.Core.Path.{_≡_, ap, refl}
-use lib.ListN.{length}
+use mathlib.Core.Path.{ap}
 use Rattle.sfc.proofs.HandOutLaws.{isDone, rebuilt-done, rebuilt-not}
 use borrow.Author.Needs.{needs}
 use Rattle.sfc.proofs.handout.rebuild_missing.Statement.{statement}

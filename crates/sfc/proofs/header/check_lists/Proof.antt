@@ -1,6 +1,6 @@
 -- `sfc::header::check_lists` meets its contract; the fields are looked at behind a list that lies inside the region. Assumes nothing.
 use Prim.Native.Nat.{_+_, _*_}
-use mathlib.Core.Path.{_≡_, sym, _∙_}
+use mathlib.Core.Path.{sym, _∙_}
 use native.Mathlib.Omega.{arith}
 use Rattle.little.proofs.PartLaws.{part-rest}
 use Rattle.sfc.proofs.HeaderLaws.{priority-inside, lists-priority, lists-fields}

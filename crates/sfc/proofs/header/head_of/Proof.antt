@@ -5,7 +5,6 @@ use native.Mathlib.Omega.{arith}
 use lib.ListN.{length}
 use Rattle.little.specs.Parts.{part}
 use Rattle.little.proofs.PartLaws.{length-part}
-use Rattle.sfc.specs.Bytes.{zeros}
 use Rattle.sfc.proofs.TextLaws.{name-fits}
 use Rattle.sfc.proofs.HeaderLaws.{copied, name-copied}
 use borrow.Author.Needs.{needs}

@@ -1,5 +1,5 @@
 -- `sfc::header::read_header` meets its contract: the start, then region and trailer as parts of the input. Assumes nothing.
-use mathlib.Core.Path.{_≡_, refl}
+use mathlib.Core.Path.{refl}
 use native.Mathlib.Omega.{arith}
 use Rattle.sfc.proofs.HeaderLaws.{start-there, read-refused, read-on, region-long}
 use borrow.Author.Needs.{needs}

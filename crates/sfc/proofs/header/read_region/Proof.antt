@@ -1,5 +1,5 @@
 -- `sfc::header::read_region` meets its contract: the verdict of all checks, and with a good one the fields. Assumes nothing.
-use mathlib.Core.Path.{_≡_, sym, ap, _∙_}
+use mathlib.Core.Path.{sym, ap, _∙_}
 use mathlib.Core.List.{_++_}
 use Rattle.sfc.specs.Header.{headOf, regionChecks, trailerChecks, refusedHeader, acceptedHeader}
 use Rattle.sfc.proofs.CheckLaws.{good-all, refused-all}

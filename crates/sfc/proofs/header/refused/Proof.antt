@@ -1,5 +1,4 @@
 -- `sfc::header::refused` meets its contract: a blank head beside the reason. Assumes nothing.
-use mathlib.Core.Path.{_≡_}
 use borrow.Author.Needs.{needs}
 use Rattle.sfc.proofs.header.refused.Statement.{statement}
 use Rattle.sfc.proofs.header.refused.Tie as tie

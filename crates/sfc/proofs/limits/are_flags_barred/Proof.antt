@@ -1,7 +1,6 @@
 -- `sfc::limits::are_flags_barred` computes its definition. Assumes nothing.
 use mathlib.Core.Path.{refl}
 use Rattle.sfc.specs.Header.{flagsBarred}
-use borrow.Author.Needs.{needs}
 use Rattle.sfc.proofs.limits.are_flags_barred.Statement.{statement}
 use Rattle.sfc.proofs.limits.are_flags_barred.Tie as tie
 

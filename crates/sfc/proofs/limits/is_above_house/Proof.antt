@@ -1,7 +1,6 @@
 -- `sfc::limits::is_above_house` computes its definition. Assumes nothing.
 use mathlib.Core.Path.{refl}
 use Rattle.sfc.specs.Limits.{aboveHouse}
-use borrow.Author.Needs.{needs}
 use Rattle.sfc.proofs.limits.is_above_house.Statement.{statement}
 use Rattle.sfc.proofs.limits.is_above_house.Tie as tie
 

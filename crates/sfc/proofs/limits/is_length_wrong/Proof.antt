@@ -1,7 +1,6 @@
 -- `sfc::limits::is_length_wrong` computes its definition. Assumes nothing.
 use mathlib.Core.Path.{refl}
 use Rattle.sfc.specs.Limits.{lengthWrong}
-use borrow.Author.Needs.{needs}
 use Rattle.sfc.proofs.limits.is_length_wrong.Statement.{statement}
 use Rattle.sfc.proofs.limits.is_length_wrong.Tie as tie
 

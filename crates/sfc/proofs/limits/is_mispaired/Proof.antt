@@ -1,7 +1,6 @@
 -- `sfc::limits::is_mispaired` computes its definition. Assumes nothing.
 use mathlib.Core.Path.{refl}
 use Rattle.sfc.specs.Header.{mispaired}
-use borrow.Author.Needs.{needs}
 use Rattle.sfc.proofs.limits.is_mispaired.Statement.{statement}
 use Rattle.sfc.proofs.limits.is_mispaired.Tie as tie
 

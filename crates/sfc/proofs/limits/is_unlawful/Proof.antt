@@ -1,5 +1,4 @@
 -- `sfc::limits::is_unlawful` meets its contract; blocks of no bytes are unlawful at once. Assumes nothing.
-use mathlib.Core.Path.{refl}
 use Rattle.sfc.specs.Limits.{unlawful}
 use Rattle.sfc.proofs.LimitLaws.{empty-unlawful}
 use borrow.Author.Needs.{needs}

@@ -1,6 +1,5 @@
 -- `sfc::lookup::find_field` meets its contract: the walk over the part of the input that has the fields. Assumes nothing.
-use Prim.Native.Nat.{_-_}
-use mathlib.Core.Path.{_≡_, refl, sym, _∙_}
+use mathlib.Core.Path.{refl, sym, _∙_}
 use mathlib.Core.Logic.{⊎-elim}
 use native.Mathlib.Omega.{arith}
 use Rattle.sfc.proofs.LookupLaws.{no-region, no-fields, find-in, part-low}

@@ -1,8 +1,5 @@
 -- `sfc::lookup::find_in` meets its contract. The loop's invariant: what is left to be found is what is to be found at all. Assumes nothing.
-use Prim.Native.Nat.{ℕ, _+_, _-_, _≤_}
-use mathlib.Core.Path.{_≡_}
 use native.Mathlib.Omega.{arith}
-use lib.ListN.{length}
 use Rattle.little.proofs.PartLaws.{part-rest}
 use Rattle.sfc.proofs.LookupLaws.{Walking, walking-start, walking-inside, walking-end, cut-head, cut-value, found, not-this}
 use borrow.Author.Needs.{needs}

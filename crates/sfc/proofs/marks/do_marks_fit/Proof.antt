@@ -1,6 +1,6 @@
 -- `sfc::marks::do_marks_fit` meets its contract. The loop's invariant: whether the marks from i on fit. Assumes nothing.
-use Prim.Native.Nat.{ℕ, _+_, _-_, _*_, _≤_, _<_}
-use mathlib.Core.Path.{_≡_, refl, sym, _∙_}
+use Prim.Native.Nat.{_≤_}
+use mathlib.Core.Path.{_≡_}
 use native.Mathlib.Omega.{arith}
 use lib.ListN.{length, drop}
 use Rattle.sfc.specs.Marks.{marksFit}

@@ -1,5 +1,5 @@
 -- `sfc::prefix::count_leading` meets its contract. The loop's invariant: the count that begins at i. Assumes nothing.
-use Prim.Native.Nat.{ℕ, _+_, _-_, _≤_}
+use Prim.Native.Nat.{_+_, _≤_}
 use mathlib.Core.Path.{_≡_}
 use native.Mathlib.Omega.{arith}
 use lib.ListN.{length, drop}

@@ -1,5 +1,5 @@
 -- `sfc::prefix::prefix` meets its contract, by its three answers. Assumes nothing.
-use mathlib.Core.Path.{_≡_, refl, sym, _∙_}
+use mathlib.Core.Path.{refl, sym, _∙_}
 use native.Mathlib.Omega.{arith}
 use lib.Seq.{length-take-le}
 use Rattle.sfc.proofs.SessionLaws.{right-lent}

@@ -1,5 +1,5 @@
 -- `sfc::priority::are_distinct_below` meets its contract. The loop's invariant: whether the indices from i on are good. Assumes nothing.
-use Prim.Native.Nat.{ℕ, _+_, _-_, _*_, _≤_}
+use Prim.Native.Nat.{_+_, _-_, _*_, _≤_}
 use mathlib.Core.Path.{_≡_}
 use native.Mathlib.Omega.{arith}
 use native.Mathlib.Nat.{sub-self}

@@ -1,5 +1,4 @@
 -- `sfc::priority::is_priority_wrong` meets its contract; a list longer than n is wrong at once. Assumes nothing.
-use mathlib.Core.Path.{_≡_}
 use borrow.Author.Tests.{lt-ltb, le-ltb}
 use Rattle.sfc.specs.Header.{priorityWrong}
 use borrow.Author.Needs.{needs}

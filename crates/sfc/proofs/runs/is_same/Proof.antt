@@ -1,6 +1,6 @@
 -- `sfc::runs::is_same` meets its contract. The loop's invariant: whether the runs from i on are the same. Assumes nothing.
-use Prim.Native.Nat.{ℕ, _+_, _-_, _*_, _≤_, _<_}
-use mathlib.Core.Path.{_≡_, refl, sym, _∙_}
+use Prim.Native.Nat.{_≤_}
+use mathlib.Core.Path.{_≡_}
 use native.Mathlib.Omega.{arith}
 use lib.ListN.{length, drop}
 use Rattle.sfc.specs.Bytes.{same}

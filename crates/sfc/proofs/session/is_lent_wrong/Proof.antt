@@ -1,5 +1,5 @@
 -- `sfc::session::is_lent_wrong` meets its contract; the product is taken only of numbers within the limits. Assumes nothing.
-use mathlib.Core.Path.{_≡_, sym, _∙_}
+use mathlib.Core.Path.{sym, _∙_}
 use native.Mathlib.Omega.{arith}
 use Rattle.sfc.proofs.MarkLaws.{right-marks}
 use Rattle.sfc.proofs.SessionLaws.{lent-marks, lent-store}

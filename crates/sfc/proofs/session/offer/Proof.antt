@@ -1,5 +1,5 @@
 -- `sfc::session::offer` meets its contract: 71, 43, the checks of the chunk, and then its block. Assumes nothing.
-use mathlib.Core.Path.{_≡_, sym, _∙_}
+use mathlib.Core.Path.{sym, _∙_}
 use native.Mathlib.Omega.{arith}
 use Rattle.sfc.proofs.TallyLaws.{room-left}
 use Rattle.sfc.proofs.SessionLaws.{lent-refused, full-refused, chunk-number, chunk-refused}

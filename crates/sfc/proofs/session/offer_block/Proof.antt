@@ -1,5 +1,5 @@
 -- `sfc::session::offer_block` meets its contract, by the mark and the comparison. Assumes nothing.
-use mathlib.Core.Path.{_≡_, sym, ap, _∙_}
+use mathlib.Core.Path.{sym, _∙_}
 use Rattle.sfc.proofs.SessionLaws.{block-laid, step-copy, step-differs, step-barred}
 use borrow.Author.Needs.{needs}
 use Rattle.sfc.proofs.session.offer_block.Statement.{statement}

@@ -1,5 +1,4 @@
 -- `sfc::session::offer_whole` meets its contract, in each case by what the step told. Assumes nothing.
-use mathlib.Core.Path.{_≡_, refl, sym, ap, _∙_}
 use native.Mathlib.Nat.{add-sub-cancel-left}
 use native.Mathlib.Omega.{arith}
 use Rattle.sfc.proofs.TallyLaws.{room-left}

@@ -1,5 +1,4 @@
 -- `sfc::tallies::is_full` meets its contract: the sum of all tallies. Assumes nothing.
-use mathlib.Core.Path.{_≡_}
 use Rattle.sfc.specs.Tallies.{tallyFull}
 use borrow.Author.Needs.{needs}
 use Rattle.sfc.proofs.tallies.is_full.Statement.{statement}

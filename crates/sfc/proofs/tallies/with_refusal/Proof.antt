@@ -1,6 +1,6 @@
 -- `sfc::tallies::with_refusal` meets its contract: one more at the reason's place, which the sum leaves room for. Assumes nothing.
-use Prim.Native.Nat.{ℕ, _+_, _-_, _*_, _≤_, _<_}
-use mathlib.Core.Path.{_≡_, refl, sym, _∙_}
+use Prim.Native.Nat.{_-_}
+use mathlib.Core.Path.{sym}
 use native.Mathlib.Omega.{arith}
 use Rattle.sfc.specs.Numbers.{numberOf}
 use Rattle.sfc.proofs.TallyLaws.{in-sum, counts-one}

@@ -1,10 +1,10 @@
 -- `sfc::text::name_length` meets its contract. The loop's invariant: the name that begins at i has that length. Assumes nothing.
-use Prim.Native.Nat.{ℕ, _+_, _-_, _*_, _≤_}
+use Prim.Native.Nat.{_+_, _≤_}
 use mathlib.Core.Path.{_≡_}
 use native.Mathlib.Omega.{arith}
 use lib.ListN.{length, drop}
 use Rattle.sfc.specs.Bytes.{beforeZero}
-use Rattle.sfc.proofs.TextLaws.{name-start, name-ends, name-more, name-fits}
+use Rattle.sfc.proofs.TextLaws.{name-start, name-ends, name-more}
 use borrow.Author.Needs.{needs}
 use Rattle.sfc.proofs.text.name_length.Statement.{statement}
 use Rattle.sfc.proofs.text.name_length.Tie as tie

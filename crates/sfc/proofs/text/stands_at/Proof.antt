@@ -1,5 +1,5 @@
 -- `sfc::text::stands_at` meets its contract. The loop's invariant: the wanted bytes from i on stand where they should. Assumes nothing.
-use Prim.Native.Nat.{ℕ, _+_, _-_, _*_, _≤_}
+use Prim.Native.Nat.{_+_, _≤_}
 use mathlib.Core.Path.{_≡_}
 use native.Mathlib.Omega.{arith}
 use lib.ListN.{length, drop}

@@ -44,7 +44,7 @@ returns-4 c =
     let few = c .before .before .before .before .before .before .before .if2 .left in
     let listed = c .before .before .before .before .before .before .if3 .left in
     let e = c .before .before .before .before .before .before .before .before .wanted-blocks .ensures in
-    tests-answered w t (c .before .before .before .before .before .before .before .before .before .if1 .left) (omega arith) (omega arith) _ _ e refl _ _ _ _ _ _ (c .before .before .before .before .before .is-name-wrong .ensures) (c .before .before .before .before .has-split .ensures) (c .before .before .before .is-shape-wrong .ensures) (c .before .before .are-flags-barred .ensures) (c .before .is-distinct-below .ensures) (c .are-fields-wrong .ensures)
+    tests-answered w t (c .before .before .before .before .before .before .before .before .before .if1 .left) (omega arith) (omega arith) _ _ e refl _ _ _ _ _ _ (c .before .before .before .before .before .is-name-wrong .ensures) (c .before .before .before .before .has-reserved .ensures) (c .before .before .before .is-shape-wrong .ensures) (c .before .before .are-flags-barred .ensures) (c .before .is-distinct-below .ensures) (c .are-fields-wrong .ensures)
 
 pub is-input-wrong-spec : {M : Type 1} → statement M
 is-input-wrong-spec =

@@ -1,25 +1,25 @@
--- `sfc::extension::has_split` meets its contract. The loop's invariant: what is left to be found is what is to be found at all. Assumes nothing.
+-- `sfc::extension::has_reserved` meets its contract. The loop's invariant: what is left to be found is what is to be found at all. Assumes nothing.
 use native.Mathlib.Omega.{arith}
 use Rattle.little.proofs.PartLaws.{part-rest}
-use Rattle.sfc.proofs.SplitLaws.{Splitting, splitting-start, splitting-inside, splitting-end, split-cut-head, split-cut-value, split-found, split-not-this}
+use Rattle.sfc.proofs.ReservedLaws.{Searching, searching-start, searching-inside, searching-end, split-cut-head, split-cut-value, split-found, split-not-this}
 use borrow.Author.Needs.{needs}
-use Rattle.sfc.proofs.extension.has_split.Statement.{statement}
-use Rattle.sfc.proofs.extension.has_split.Tie as tie
+use Rattle.sfc.proofs.extension.has_reserved.Statement.{statement}
+use Rattle.sfc.proofs.extension.has_reserved.Tie as tie
 
 abbrev Inv-loop : tie.InvT-loop
-Inv-loop e at₀ most₀ at most = Splitting e most at
+Inv-loop e at₀ most₀ at most = Searching e most at
 
 abbrev μ-loop : tie.MeasureT-loop
 μ-loop e at₀ most₀ at most = most
 
 loop-holds : tie.Need-loop-holds Inv-loop μ-loop
-loop-holds c = splitting-start (c .before .args .e .now)
+loop-holds c = searching-start (c .before .args .e .now)
 
 sub-rest : tie.Need-sub-rest Inv-loop μ-loop
-sub-rest c = let l = c .before .loop in omega (arith, splitting-inside (c .before .before .before .args .e .now) (l .most) (l .at) (l .inv))
+sub-rest c = let l = c .before .loop in omega (arith, searching-inside (c .before .before .before .args .e .now) (l .most) (l .at) (l .inv))
 
 part-rest-start : tie.Need-part-rest-start Inv-loop μ-loop
-part-rest-start c = let l = c .before .loop in omega (arith, splitting-inside (c .before .before .before .args .e .now) (l .most) (l .at) (l .inv))
+part-rest-start c = let l = c .before .loop in omega (arith, searching-inside (c .before .before .before .args .e .now) (l .most) (l .at) (l .inv))
 
 returns : tie.Need-returns Inv-loop μ-loop
 returns c = let a = c .before .before .before .before .before .args in let l = c .before .before .before .loop in split-cut-head (a .e .now) (l .most) (l .at) _ (c .before .before .loop-test .taken) (l .inv) (part-rest (a .e .now) (l .at)) (c .if1 .taken)
@@ -34,10 +34,10 @@ loop-again : tie.Need-loop-again Inv-loop μ-loop
 loop-again c = let a = c .before .before .before .before .before .before .before .before .before .args in let l = c .before .before .before .before .before .before .before .loop in rw (c .before .before .before .read32 .ensures) (split-not-this (a .e .now) (l .most) (l .at) _ (c .before .before .before .before .before .before .loop-test .taken) (l .inv) (part-rest (a .e .now) (l .at)) (c .before .before .before .before .if1 .left) (rw (c .before .before .before .read32 .ensures) at (c .before .before .if2 .left)) (rw (c .before .read16 .ensures) at (c .if3 .left)))
 
 returns-4 : tie.Need-returns-4 Inv-loop μ-loop
-returns-4 c = let a = c .before .before .before .args in let l = c .before .loop in splitting-end (a .e .now) (l .most) (l .at) (c .loop-test .left) (l .inv)
+returns-4 c = let a = c .before .before .before .args in let l = c .before .loop in searching-end (a .e .now) (l .most) (l .at) (c .loop-test .left) (l .inv)
 
-pub has-split-spec : {M : Type 1} → statement M
-has-split-spec =
+pub has-reserved-spec : {M : Type 1} → statement M
+has-reserved-spec =
     tie.close
     (tie.spec
     Inv-loop
