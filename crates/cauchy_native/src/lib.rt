@@ -3,7 +3,7 @@ use cauchy::Answer;
 use cauchy::rebuild_all;
 use cauchy::recovery;
 ghost use mathlib.Core.Path.{_≡_};
-ghost use Rattle.cauchy.specs.Calls.{Recovered, recoverySpec, Rebuilt, rebuildAllSpec};
+ghost use Rattle.cauchy.specs.Calls.{recoverySpec, rebuildAllSpec};
 ghost use Rattle.cauchy_native.specs.Number.{numberOf};
 
 fn number(a: Answer) -> u8

@@ -1,16 +1,17 @@
 -- Demand 1 for the listing, proved (specs/Demand1). Assumes nothing.
-use Prim.Native.Nat.{ℕ}
+use Prim.Native.Nat.{ℕ, _≤_}
 use mathlib.Core.Path.{_≡_, refl, sym, ap, _∙_}
 use mathlib.Core.Bool.{true, false, cond}
 use mathlib.Core.List.{List, [], _∷_}
 use native.Mathlib.Omega.{arith}
 use borrow.Author.Tests.{ltb-false}
-use lib.Dec.{eqb}
+use lib.Dec.{eqb, lit≤}
 use lib.ListN.{length}
 use Rattle.little.specs.Parts.{put}
 use Rattle.sfc.specs.Bytes.{any}
 use Rattle.sfc.specs.Numbers.{Check, checked, verdict, reasonOf, numberOf}
 use Rattle.sfc.specs.Demand1.{Leaves, Ends}
+use Rattle.sfc.specs.Header.{regionOf, headOf}
 use Rattle.sfc.specs.HandOut.{contentChecks}
 use Rattle.sfc.specs.Session.{Session}
 use Rattle.sfc.specs.declared.header.Head.{Head}
@@ -20,10 +21,11 @@ use Rattle.sfc.specs.declared.reason.Checked.the-variants.{Good, Refused as Bad
 use Rattle.sfc.specs.declared.written.Written.{Written}
 use Rattle.sfc.specs.declared.written.Written.the-variants.{Bytes, Refused}
 use Rattle.sfc_listing.specs.Text.{text}
-use Rattle.sfc_listing.specs.Listing.{lastWord, listingOf, Desk, cleared, listingChecks, listed}
+use Rattle.sfc_listing.specs.Listing.{sessionOf, lastWord, sessionText, programChecks, refusedText, listingOf, Desk, cleared, listingChecks, listed}
 use Rattle.sfc_listing.specs.Demand1.{ListingDemand}
-use Rattle.sfc.proofs.CheckLaws.{passed, good-all, refused-all}
-use Rattle.sfc.proofs.RefusalLaws.{tells, leaves, ends}
+use Rattle.sfc.proofs.CheckLaws.{passed, good-all, refused-all, tells}
+use Rattle.sfc.proofs.SessionLaws.{number-in}
+use Rattle.sfc.proofs.RefusalLaws.{leaves, ends}
 use Rattle.sfc.proofs.Demand1.{writtenSeen}
 use Rattle.sfc_listing.proofs.FitLaws.{listing-fits}
 
@@ -47,6 +49,15 @@ module _ (f : List ℕ) (d : Desk) (out : List ℕ) where
       let q : length (listingOf f) ≡ k = cc in
       (ends cs out (listingOf f) k t q (omega (arith, listing-fits f, ltb-false (length out) 32768 (passed cs t .1 .0))), good-all (λ (r : Reason). d) cs (cleared d) t)
 
+file-refused : (f : List ℕ) (r : Reason) → verdict (programChecks (headOf (regionOf f)) f) ≡ Bad r
+    → (listingOf f ≡ refusedText (numberOf r)) × (10 ≤ numberOf r) × (numberOf r ≤ 23)
+unfolding listingOf
+file-refused f r e =
+    let h : Head = headOf (regionOf f) in
+    let n = number-in (λ (k : ℕ). (10 ≤ k) × (k ≤ 23)) (programChecks h f) r
+    ((lit≤ tt, lit≤ tt), ((lit≤ tt, lit≤ tt), ((lit≤ tt, lit≤ tt), ((lit≤ tt, lit≤ tt), ((lit≤ tt, lit≤ tt), ((lit≤ tt, lit≤ tt), ((lit≤ tt, lit≤ tt), ((lit≤ tt, lit≤ tt), ((lit≤ tt, lit≤ tt), ((lit≤ tt, lit≤ tt), ((lit≤ tt, lit≤ tt), ((lit≤ tt, lit≤ tt), ((lit≤ tt, lit≤ tt), ((lit≤ tt, lit≤ tt), ((lit≤ tt, lit≤ tt), ((lit≤ tt, lit≤ tt), ((lit≤ tt, lit≤ tt), tt))))))))))))))))) e in
+    (refused-all (λ (q : Reason). refusedText (numberOf q)) (programChecks h f) (sessionText h (sessionOf h f)) r e, n .0, n .1)
+
 -- the words differ, so the last one tells how the checks ended
 decided-good : (cs : List Check) → checked cs (λ (r : Reason). cond (eqb (numberOf r) 51) (text "hash differs") (text "incomplete")) (text "complete") ≡ text "complete" → verdict cs ≡ Good
 unfolding text
@@ -67,5 +78,6 @@ listing-demand = record {
   listing-refused = listing-refused;
   listing-ends = listing-ends;
   listing-fits = listing-fits;
+  file-refused = file-refused;
   complete-only = complete-only;
 }

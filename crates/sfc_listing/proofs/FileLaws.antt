@@ -2,7 +2,7 @@
 use Prim.Native.Nat.{ℕ, _+_, _-_, _*_, _<_, _≤_}
 use mathlib.Core.Path.{_≡_, refl, sym, ap, _∙_, subst}
 use mathlib.Core.Bool.{Bool, true, false, not, _||_}
-use mathlib.Core.List.{List, [], _∷_, _++_}
+use mathlib.Core.List.{List, [], _∷_}
 use native.Mathlib.Omega.{arith}
 use native.Mathlib.Nat.{mul-le-mul}
 use borrow.Author.Tests.{lt-ltb, le-ltb, ltb-false, eqb-true, not-false}
@@ -10,8 +10,9 @@ use lib.Dec.{eqb, ltb}
 use lib.ListN.{length, take}
 use lib.Seq.{length-take-le}
 use Rattle.little.specs.Parts.{part}
+use Rattle.little.proofs.TestLaws.{or-false}
 use Rattle.sfc.specs.Bytes.{zeros}
-use Rattle.sfc.specs.Numbers.{checked, verdict, numberOf}
+use Rattle.sfc.specs.Numbers.{verdict, numberOf}
 use Rattle.sfc.specs.Header.{lengthField, regionOf, headOf, headerChecks, refusedHeader, acceptedHeader, readHeader}
 use Rattle.sfc_listing.specs.Listing.{between, sessionOf, sessionText, refusedText, listingOf, Desk, deskWrong, cleared, Listed, listed}
 use Rattle.sfc_listing.specs.Steps.{Printed, walked, acceptedText, Ready}
@@ -22,9 +23,7 @@ use Rattle.sfc.specs.declared.reason.Reason.the-variants.{Lent, OutputShort}
 use Rattle.sfc.specs.declared.reason.Checked.{Checked}
 use Rattle.sfc.specs.declared.reason.Checked.the-variants.{Good, Refused}
 use Rattle.sfc.specs.declared.written.Written.the-variants.{Bytes, Refused as Unwritten}
-use Rattle.sfc.proofs.HeaderLaws.{or-false}
-use Rattle.sfc.proofs.CheckLaws.{passed, good-then, refused-then, good-all}
-use Rattle.sfc.proofs.RefusalLaws.{tells}
+use Rattle.sfc.proofs.CheckLaws.{passed, good-then, refused-then, good-all, tells}
 use Rattle.sfc.proofs.MarkLaws.{RightShape, right-shape}
 use Rattle.sfc.proofs.RightLaws.{accepted-shape}
 

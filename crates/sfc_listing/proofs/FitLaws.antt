@@ -6,6 +6,7 @@ use mathlib.Core.List.{List, [], _∷_, _++_}
 use native.Mathlib.Omega.{arith}
 use lib.Dec.{ltb, eqb}
 use lib.ListN.{length, length-append, length-replicate}
+use Rattle.little.proofs.TestLaws.{or-false}
 use Rattle.sfc.specs.Bytes.{zeros}
 use Rattle.sfc.specs.Numbers.{Check, checked, verdict, reasonOf, numberOf}
 use Rattle.sfc.specs.Header.{regionOf, headOf, headerChecks}
@@ -20,8 +21,7 @@ use Rattle.sfc.specs.declared.header.Head.{Head}
 use Rattle.sfc.specs.declared.reason.Reason.{Reason}
 use Rattle.sfc.specs.declared.reason.Checked.the-variants.{Good}
 use Rattle.sfc.proofs.GatherLaws.{length-cut}
-use Rattle.sfc.proofs.HeaderLaws.{or-false}
-use Rattle.sfc.proofs.CheckLaws.{passed, all-passed}
+use Rattle.sfc.proofs.CheckLaws.{front-good, passed, all-passed}
 use Rattle.sfc.proofs.NoteExact.{note-theorems}
 use Rattle.sfc.proofs.RightLaws.{bytes-zeros, accepted-shape, blank-right}
 use Rattle.sfc_listing.proofs.WalkLaws.{all-lent}
@@ -132,11 +132,6 @@ module _ (h : Head) (x : Session) (right : sessionWrong h x ≡ false) (u : leng
       both (start ++ missingLines rs) (line (lastWord h x)) 25807 13
       (both start (missingLines rs) 207 25600 (start-short (h .uuid) (h .n) (h .m) (h .size) (h .s) (heldCount (x .marks)) (barredCount (x .marks)) u) (omega (arith, missing-short rs, few-ranges)))
       (ended (lastWord h x) 12 (word-short h x))
-
-front-good : (cs ds : List Check) → verdict (cs ++ ds) ≡ Good → verdict cs ≡ Good
-front-good [] ds e = refl
-front-good ((true, k) ∷ cs) ds e = e
-front-good ((false, k) ∷ cs) ds e = front-good cs ds e
 
 module _ (f : List ℕ) where
   abbrev head : Head

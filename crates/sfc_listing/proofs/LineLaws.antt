@@ -10,14 +10,14 @@ use borrow.Author.Tests.{lt-ltb, le-ltb}
 use lib.ListN.{length, getD, set, take, drop, length-append, length-set, drop-of-length-le}
 use lib.Seq.{drop-cons, set-split, drop-drop, append-snoc, drop-length}
 use Rattle.little.specs.Parts.{part, put}
-use Rattle.little.proofs.PartLaws.{length-put, part-rest}
+use Rattle.little.proofs.PartLaws.{length-put, part-rest, put-none}
 use Rattle.sfc.specs.Missing.{Range}
 use Rattle.sfc.specs.Note.{bounds}
 use Rattle.sfc_listing.specs.Text.{text, digits, decimal, hexDigit, hex, line}
 use Rattle.sfc_listing.specs.Listing.{missingLine, missingLines, startText, refusedText}
 use Rattle.sfc_listing.specs.Lines.{uuidLine, shapeLine, countsLine, rangeLine, boundsLines, Appended}
 use Rattle.sfc.proofs.FillLaws.{put-next}
-use Rattle.sfc.proofs.GatherLaws.{put-none, copied-in, length-cut}
+use Rattle.sfc.proofs.GatherLaws.{copied-in, length-cut}
 use Rattle.sfc.proofs.MissingLaws.{drop-set}
 
 -- the numbers of ranges make the lines of the ranges

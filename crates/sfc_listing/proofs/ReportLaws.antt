@@ -1,22 +1,23 @@
 -- What a session's listing says: its missing ranges by way of a note, its last word, and all of it; and that the memory is
 -- as long as the calls behind it want. Assumes nothing.
-use Prim.Native.Nat.{ℕ, zero, suc, _+_, _*_, _%_, _≤_}
-use mathlib.Core.Path.{_≡_, refl, sym, ap, _∙_, subst}
-use mathlib.Core.Bool.{Bool, true, false, cond, not, _||_}
-use mathlib.Core.List.{List, [], _∷_, _++_}
+use Prim.Native.Nat.{ℕ, _+_, _*_, _%_, _≤_}
+use mathlib.Core.Path.{_≡_, refl, sym, ap, _∙_}
+use mathlib.Core.Bool.{false, cond}
+use mathlib.Core.List.{List, _++_}
 use native.Mathlib.Omega.{arith}
 use native.Mathlib.Nat.{mul-le-mul}
 use borrow.Author.Tests.{eq-eqb, ne-eqb, le-ltb}
 use lib.Dec.{eqb, ltb}
-use lib.ListN.{length, take, drop, length-append}
+use lib.ListN.{length, take, drop}
 use lib.Seq.{take-at}
 use Rattle.little.specs.Fields.{Bytes}
 use Rattle.little.specs.Parts.{put}
+use Rattle.little.proofs.TestLaws.{or-false}
 use Rattle.sfc.specs.Bytes.{zeros}
 use Rattle.sfc.specs.Numbers.{Answered, checked, verdict, numberOf}
 use Rattle.sfc.specs.Marks.{heldCount, marksWrong}
 use Rattle.sfc.specs.Chunk.{place}
-use Rattle.sfc.specs.Session.{Session, lentWrong, sessionWrong}
+use Rattle.sfc.specs.Session.{Session, lentWrong}
 use Rattle.sfc.specs.Missing.{Range, missing, ranges}
 use Rattle.sfc.specs.Note.{noteOf, writeNote, bounds, readNote}
 use Rattle.sfc.specs.NoteTheorems.{Sayable}
@@ -37,11 +38,9 @@ use Rattle.sfc.specs.declared.handout.HandedOut.{HandedOut}
 use Rattle.sfc.specs.declared.handout.HandedOut.the-variants.{Complete, Refused as NotHandedOut}
 use Rattle.sfc_listing.specs.declared.lines.LastWord.{LastWord}
 use Rattle.sfc_listing.specs.declared.lines.LastWord.the-variants.{Complete as Whole, HashDiffers, Incomplete}
-use Rattle.sfc.proofs.HeaderLaws.{or-false}
-use Rattle.sfc.proofs.CheckLaws.{good-all, refused-all}
-use Rattle.sfc.proofs.RefusalLaws.{tells}
+use Rattle.sfc.proofs.CheckLaws.{good-all, refused-all, tells}
 use Rattle.sfc.proofs.Demand1.{handOutSeen}
-use Rattle.sfc.proofs.NoteLaws.{length-note}
+use Rattle.sfc.proofs.NoteLaws.{length-note, bounds-long}
 use Rattle.sfc.proofs.NoteExact.{note-theorems}
 use Rattle.sfc.proofs.SessionLaws.{right-lent}
 use Rattle.sfc.proofs.LimitLaws.{wanted-holds}
@@ -50,11 +49,6 @@ use Rattle.sfc_listing.proofs.WalkLaws.{walked-lent}
 use Rattle.sfc_listing.proofs.LineLaws.{bounds-lines}
 
 -- ---- the missing ranges
-
-length-bounds : (rs : List Range) → length (bounds rs) ≡ 2 * length rs
-unfolding bounds
-length-bounds [] = refl
-length-bounds (r ∷ rs) = omega (arith, length-bounds rs)
 
 -- the front of an output is what was put there
 take-put : (out b : List ℕ) → take (length b) (put out 0 b) ≡ b
@@ -96,7 +90,7 @@ module _ (uuid : List ℕ) (size n m s : ℕ) (marks note : List ℕ) (u : lengt
           let q = g ∙ ap (λ (b : List ℕ). readNote b out) front ∙ note-theorems .note-read-back uuid rs (said .0) out (omega (arith, said .1)) in
           let c : x .ranges ≡ length rs = ap (λ (a : Answered NoteRead). a .answer .ranges) q in
           let o : left ≡ put out 0 (bounds rs) = ap (λ (a : Answered NoteRead). a .output) q in
-          let l : 2 * x .ranges ≡ length (bounds rs) = omega (arith, length-bounds rs) in
+          let l : 2 * x .ranges ≡ length (bounds rs) = omega (arith, bounds-long rs) in
           (rw (l, o) (take-put out (bounds rs)), omega (arith, said .1), omega arith)
 
 -- ---- the last word

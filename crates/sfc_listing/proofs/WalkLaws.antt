@@ -1,29 +1,24 @@
--- The walk over the chunks of a file: where the next one ends, a turn of the loop that offers them, the marks that say barred.
+-- The walk over the chunks of a file: the next one, a turn of the loop that offers them, the marks that say barred.
 -- Assumes nothing.
 use Prim.Native.Nat.{ℕ, zero, suc, _+_, _-_, _<_, _≤_}
 use mathlib.Core.Path.{_≡_, refl, sym, ap, _∙_}
-use mathlib.Core.Bool.{Bool, true, false, cond}
+use mathlib.Core.Bool.{false}
 use mathlib.Core.List.{List, [], _∷_}
 use native.Mathlib.Omega.{arith}
-use borrow.Author.Tests.{eq-eqb, ne-eqb, ltb-false}
-use lib.Dec.{eqb}
+use borrow.Author.Tests.{eq-eqb, ne-eqb}
 use lib.ListN.{length, getD, take, drop, length-drop}
 use lib.Seq.{drop-length, drop-drop}
 use Rattle.little.proofs.PartLaws.{drop-down}
-use Rattle.sfc.specs.Numbers.{verdict, passes}
-use Rattle.sfc.specs.Chunk.{chunkLength, lengthChecks}
+use Rattle.sfc.specs.Chunk.{frontLength}
 use Rattle.sfc.specs.Tallies.{noTallies}
 use Rattle.sfc.specs.Session.{Session, sessionWrong, after, Offered, offered}
 use Rattle.sfc.specs.History.{afterAll}
 use Rattle.sfc_listing.specs.Listing.{chunksIn, barredCount}
-use Rattle.sfc_listing.specs.Steps.{frontLength, untold, walked}
+use Rattle.sfc_listing.specs.Steps.{untold, walked}
 use Rattle.sfc.specs.declared.header.Head.{Head}
 use Rattle.sfc.specs.declared.tallies.Tallies.{Tallies}
-use Rattle.sfc.specs.declared.reason.Reason.{Reason}
-use Rattle.sfc.specs.declared.reason.Checked.the-variants.{Good, Refused}
 use Rattle.sfc.specs.declared.session.Verdict.{Verdict}
-use Rattle.sfc.proofs.CheckLaws.{passed, passes-good}
-use Rattle.sfc.proofs.EndLaws.{good-passes, wrong-fails}
+use Rattle.sfc.proofs.ChunkLaws.{front-some, front-none}
 use Rattle.sfc.proofs.OfferLaws.{one-offer}
 use Rattle.sfc.proofs.SessionLaws.{offered-session}
 
@@ -42,40 +37,7 @@ module _ (xs : List ℕ) (i : ℕ) (h : 0 < i) (k : i ≤ length xs) where
   unfolding barredCount
   barred-same n e f = rw (drop-down xs i h k, ne-eqb _ _ e) f
 
--- ---- where the chunk at the front ends
-
-pub front-refused : (s : ℕ) (b : List ℕ) (r : Reason) → verdict (lengthChecks s b) ≡ Refused r → 0 ≡ frontLength s b
-unfolding frontLength
-front-refused s b r e = rw (wrong-fails (lengthChecks s b) r e)
-
-pub front-good : (s : ℕ) (b : List ℕ) → verdict (lengthChecks s b) ≡ Good → chunkLength b ≡ frontLength s b
-unfolding frontLength
-front-good s b e = rw (good-passes (lengthChecks s b) e)
-
--- what its length tells: that it is all there, or that there is none
-record Front (s : ℕ) (b : List ℕ) : Type 0 where
-  pub there : passes (lengthChecks s b) ≡ true
-  pub ends : frontLength s b ≡ chunkLength b
-  pub inside : chunkLength b ≤ length b
-
-front-some : (s : ℕ) (b : List ℕ) → (frontLength s b ≡ 0 → ⊥) → Front s b
-unfolding frontLength
-front-some s b n = go (passes (lengthChecks s b)) refl
-  where
-    go : (t : Bool) → passes (lengthChecks s b) ≡ t → Front s b
-    go true e = record {
-      there = e;
-      ends = rw e;
-      inside = ltb-false (length b) (chunkLength b) (passed (lengthChecks s b) (passes-good (lengthChecks s b) e) .1 .1 .1 .0);
-    }
-    go false e = absurd (n (rw e))
-
-front-none : (s : ℕ) (b : List ℕ) → frontLength s b ≡ 0 → passes (lengthChecks s b) ≡ false
-front-none s b n = go (passes (lengthChecks s b)) refl
-  where
-    go : (t : Bool) → passes (lengthChecks s b) ≡ t → passes (lengthChecks s b) ≡ false
-    go true e = let f = front-good s b (passes-good (lengthChecks s b) e) in absurd (omega arith)
-    go false e = e
+-- ---- the next chunk
 
 no-chunk : (most s : ℕ) (b : List ℕ) → frontLength s b ≡ 0 → chunksIn most s b ≡ []
 unfolding chunksIn

@@ -1,14 +1,13 @@
 // The session of a listing: the chunks of a file are offered one behind the other, and what they came to is told.
 use crate::lines::LastWord;
 use crate::lines::put_session;
-use sfc::chunk::check_length;
+use sfc::chunk::front_length;
 use sfc::handout::HandedOut;
 use sfc::handout::hand_out;
 use sfc::header::Head;
 use sfc::marks::held_count;
 use sfc::note::read_note;
 use sfc::note::write_note;
-use sfc::reason::Checked;
 use sfc::reason::number_of;
 use sfc::runs::clear;
 use sfc::session::offer;
@@ -23,10 +22,10 @@ ghost use Rattle.sfc.specs.Marks.{marksWrong};
 ghost use Rattle.sfc.specs.Session.{lentWrong};
 ghost use Rattle.sfc.specs.Missing.{missing, ranges};
 ghost use Rattle.sfc.specs.Note.{bounds};
-ghost use Rattle.sfc.specs.HandOut.{Lent, rebuildWrong};
+ghost use Rattle.sfc.specs.HandOut.{rebuildWrong};
 ghost use Rattle.sfc_listing.specs.Listing.{barredCount, lastWord, sessionText};
 ghost use Rattle.sfc_listing.specs.Lines.{wordOf};
-ghost use Rattle.sfc_listing.specs.Steps.{Printed, frontLength, untold, walked, Ready};
+ghost use Rattle.sfc_listing.specs.Steps.{Printed, untold, walked, Ready};
 
 // How many marks say barred.
 fn barred_count(marks: &[u8]) -> usize
@@ -41,17 +40,6 @@ fn barred_count(marks: &[u8]) -> usize
         }
     }
     barred
-}
-
-// How many bytes the chunk at the front takes up; 0 where 30, 31 or 32 says that none is to be found there.
-fn front_length(s: u32, b: &[u8]) -> usize
-    ensures { λ r. ⌜ r ≡ frontLength s (now (b .entry)) ⌝ }
-{
-    let checked = check_length(s, b);
-    match checked {
-        Checked::Refused(_) => 0,
-        Checked::Good => 84 + little::read32(b, 28) as usize,
-    }
 }
 
 // Each turn offers one chunk, whatever it comes to; there are no more chunks than bytes.

@@ -1,7 +1,12 @@
 -- The numbers under which the answers of a hand-out and of a writer go out. Assumes nothing: these are definitions.
 use Prim.Native.Nat.{ℕ}
+use mathlib.Core.List.{List}
 use Rattle.sfc.specs.Numbers.{numberOf, Answered}
-use Rattle.sfc.specs.HandOut.{Rebuilding}
+use Rattle.sfc.specs.Header.{readHeader}
+use Rattle.sfc.specs.HandOut.{Lent, Rebuilding, handOut}
+use Rattle.sfc.specs.declared.header.Head.{Head}
+use Rattle.sfc.specs.declared.reason.Checked.{Checked}
+use Rattle.sfc.specs.declared.reason.Checked.the-variants.{Good, Refused}
 use Rattle.sfc.specs.declared.handout.HandedOut.{HandedOut}
 use Rattle.sfc.specs.declared.written.Written.{Written}
 
@@ -12,6 +17,15 @@ numberFor (HandedOut.Refused reason) = numberOf reason
 
 abbrev pub numbered : Rebuilding HandedOut → Rebuilding ℕ
 numbered r = record { answer = numberFor (r .answer); lent = r .lent }
+
+-- by a header's verdict: a refused one gives its own number, and all that is lent stays as it was
+unfoldable pub handOutBy : Checked → Head → List ℕ → List ℕ → Lent → Rebuilding ℕ
+handOutBy Good h store marks l = numbered (handOut h store marks l)
+handOutBy (Refused r) h store marks l = record { answer = numberOf r; lent = l }
+
+-- of a file: its header is read first
+abbrev pub handOutOf : List ℕ → List ℕ → List ℕ → Lent → Rebuilding ℕ
+handOutOf f store marks l = handOutBy (readHeader f .verdict) (readHeader f .head) store marks l
 
 -- the file's length, and document 01's number for a refusal
 unfoldable pub lengthFor : Written → ℕ

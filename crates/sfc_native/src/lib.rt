@@ -2,17 +2,17 @@
 use sfc::handout::HandedOut;
 use sfc::handout::hand_out;
 use sfc::header::read_header;
+use sfc::reason::Checked;
 use sfc::reason::number_of;
 use sfc::writer::FileFacts;
 use sfc::writer::write;
 use sfc::written::Written;
 ghost use Prim.Native.Nat.{ℕ};
 ghost use mathlib.Core.Path.{_≡_};
-ghost use Rattle.sfc.specs.HandOut.{Lent, Rebuilding, handOut};
-ghost use Rattle.sfc.specs.Header.{readHeader};
+ghost use Rattle.sfc.specs.HandOut.{Rebuilding};
 ghost use Rattle.sfc.specs.Numbers.{Answered};
 ghost use Rattle.sfc.specs.Writer.{inputOf, writeFile};
-ghost use Rattle.sfc_native.specs.Answers.{numberFor, numbered, lengthFor, measured};
+ghost use Rattle.sfc_native.specs.Answers.{numberFor, handOutOf, lengthFor, measured};
 
 fn number(handed: HandedOut) -> u8
     ensures { λ r. ⌜ r ≡ numberFor handed ⌝ }
@@ -23,7 +23,7 @@ fn number(handed: HandedOut) -> u8
     }
 }
 
-// By the header of the file that is lent first; where that is refused its numbers are zeros, and the answer is 71.
+// By the header of the file that is lent first; where that is refused, the answer is its number.
 #[no_mangle]
 pub extern "C" fn sfc_hand_out(
     file: &[u8],
@@ -33,11 +33,17 @@ pub extern "C" fn sfc_hand_out(
     numbers: &mut [u16],
     out: &mut [u8],
 ) -> u8
-    ensures { λ r. ⌜ _≡_ {A = Rebuilding ℕ} (record { answer = r; lent = record { scratch = now (scratch .exit); numbers = now (numbers .exit); output = now (out .exit) } }) (numbered (handOut (readHeader (now (file .entry)) .head) (now (store .entry)) (now (marks .entry)) (record { scratch = now (scratch .entry); numbers = now (numbers .entry); output = now (out .entry) }))) ⌝ }
+    ensures { λ r. ⌜ _≡_ {A = Rebuilding ℕ} (record { answer = r; lent = record { scratch = now (scratch .exit); numbers = now (numbers .exit); output = now (out .exit) } }) (handOutOf (now (file .entry)) (now (store .entry)) (now (marks .entry)) (record { scratch = now (scratch .entry); numbers = now (numbers .entry); output = now (out .entry) })) ⌝ }
 {
     let read = read_header(file);
-    let head = read.head;
-    number(hand_out(head, store, marks, scratch, numbers, out))
+    let verdict = read.verdict;
+    match verdict {
+        Checked::Refused(reason) => number_of(reason),
+        Checked::Good => {
+            let head = read.head;
+            number(hand_out(head, store, marks, scratch, numbers, out))
+        }
+    }
 }
 
 fn length_or_number(written: Written) -> u64

@@ -4,7 +4,6 @@ use crate::frame::Frame;
 use crate::write;
 use libc::STDIN_FILENO;
 ghost use Prim.Native.Nat.{_≤_};
-ghost use mathlib.Core.Path.{_≡_};
 ghost use lib.ListN.{length};
 ghost use Rattle.io.specs.Counts.{Counts};
 

@@ -1,5 +1,5 @@
-// Drives the public calls of sfc by frames from standard input, and prints a line for each answer, for comparison with the
-// second program. The frames are listed in frame.rt.
+// Drives the public calls of sfc and sfc_listing by frames from standard input, and prints a line for each answer, for
+// comparison with the second program. The frames are listed in frame.rt.
 mod chunk;
 mod edit;
 mod frame;

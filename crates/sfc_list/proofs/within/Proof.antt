@@ -1,6 +1,6 @@
 -- `sfc_list::within` meets its contract: the lesser of a number and a length counts bytes of the slice. Assumes nothing.
 use Prim.Native.Nat.{ℕ, _≤_}
-use mathlib.Core.Path.{_≡_, sym}
+use mathlib.Core.Path.{sym}
 use mathlib.Core.List.{List}
 use native.Mathlib.Omega.{arith}
 use lib.ListN.{length}

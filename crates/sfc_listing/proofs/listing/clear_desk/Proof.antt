@@ -1,5 +1,4 @@
 -- `sfc_listing::listing::clear_desk` meets its contract, slice by slice. Assumes nothing.
-use mathlib.Core.Path.{_≡_}
 use Rattle.sfc_listing.specs.Listing.{cleared}
 use borrow.Author.Needs.{needs}
 use Rattle.sfc_listing.proofs.listing.clear_desk.Statement.{statement}

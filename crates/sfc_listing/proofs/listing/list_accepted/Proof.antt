@@ -1,10 +1,7 @@
 -- `sfc_listing::listing::list_accepted` meets its contract: past the limit, or the session in parts of the memory. Assumes nothing.
-use Prim.Native.Nat.{ℕ, _+_, _*_, _≤_}
-use mathlib.Core.Path.{_≡_, refl, sym, ap, _∙_}
+use mathlib.Core.Path.{sym}
 use native.Mathlib.Omega.{arith}
-use lib.ListN.{length}
 use lib.Seq.{length-take-le}
-use Rattle.sfc_listing.specs.Listing.{Desk}
 use Rattle.sfc_listing.proofs.FileLaws.{printed-as, blocks-few, trailer-behind, limit-text, session-text, desk-holds, ready}
 use borrow.Author.Needs.{needs}
 use Rattle.sfc_listing.proofs.listing.list_accepted.Statement.{statement}

@@ -1,5 +1,5 @@
 -- `sfc_listing::listing::list_file` meets its contract: too long, refused by its header, or accepted. Assumes nothing.
-use mathlib.Core.Path.{_≡_, ap, _∙_}
+use mathlib.Core.Path.{ap, _∙_}
 use Rattle.sfc_listing.specs.Listing.{refusedText}
 use Rattle.sfc_listing.proofs.FileLaws.{printed-as, listing-long, listing-refused, listing-accepted}
 use borrow.Author.Needs.{needs}

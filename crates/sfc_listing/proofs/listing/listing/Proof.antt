@@ -1,8 +1,5 @@
 -- `sfc_listing::listing::listing` meets its contract, by its three answers. Assumes nothing.
-use mathlib.Core.Path.{_≡_, _∙_}
-use mathlib.Core.Bool.{true, false}
-use native.Mathlib.Omega.{arith}
-use Rattle.sfc_listing.specs.Listing.{Desk}
+use mathlib.Core.Path.{_∙_}
 use Rattle.sfc_listing.proofs.FileLaws.{desk-told, cleared-same, listed-wrong, listed-short, listed-good}
 use borrow.Author.Needs.{needs}
 use Rattle.sfc_listing.proofs.listing.listing.Statement.{statement}

@@ -1,8 +1,6 @@
 -- `sfc_listing::session::list_ranges` meets its contract: the note can be written, and is read back. Assumes nothing.
-use Prim.Native.Nat.{ℕ, _*_, _≤_}
-use mathlib.Core.Path.{_≡_, refl, sym}
+use mathlib.Core.Path.{refl, sym}
 use native.Mathlib.Omega.{arith}
-use lib.ListN.{length}
 use lib.Seq.{length-take-le}
 use Rattle.sfc.specs.Bytes.{zeros}
 use Rattle.sfc.proofs.RightLaws.{bytes-zeros}

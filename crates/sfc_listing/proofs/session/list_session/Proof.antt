@@ -1,5 +1,4 @@
 -- `sfc_listing::session::list_session` meets its contract: from zeros, over all chunks, to the report. Assumes nothing.
-use Rattle.sfc_listing.specs.Listing.{Desk}
 use Rattle.sfc_listing.proofs.ReportLaws.{ready-walked, walked-printed}
 use borrow.Author.Needs.{needs}
 use Rattle.sfc_listing.proofs.session.list_session.Statement.{statement}

@@ -1,6 +1,5 @@
 -- `sfc_listing::session::offer_chunks` meets its contract. The loop's invariant: the chunks that are left make of the
 -- session at hand what all of them make of the one it began as. Assumes nothing.
-use Prim.Native.Nat.{ℕ, _+_, _-_, _≤_}
 use mathlib.Core.Path.{_≡_, refl, sym, ap, _∙_}
 use native.Mathlib.Omega.{arith}
 use lib.ListN.{length}

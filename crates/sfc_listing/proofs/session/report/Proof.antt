@@ -1,10 +1,7 @@
 -- `sfc_listing::session::report` meets its contract: the pieces of the text are those of the session. Assumes nothing.
-use Prim.Native.Nat.{ℕ, _%_, _≤_}
-use mathlib.Core.Path.{_≡_, refl, sym}
+use mathlib.Core.Path.{refl, sym}
 use native.Mathlib.Omega.{arith}
-use lib.ListN.{length}
 use lib.Seq.{length-take-le}
-use Rattle.sfc_listing.specs.Listing.{Desk}
 use Rattle.sfc_listing.proofs.ReportLaws.{marks-right, rebuild-right, size-fits, report-printed}
 use borrow.Author.Needs.{needs}
 use Rattle.sfc_listing.proofs.session.report.Statement.{statement}

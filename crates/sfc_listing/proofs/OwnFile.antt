@@ -1,0 +1,251 @@
+-- The listing of a file that our writer wrote says complete (specs/OwnFile): the chunks that the program finds in it are the
+-- file's own, in order, and after them every block is held. Assumes nothing.
+use Prim.Native.Nat.{ℕ, zero, suc, _+_, _-_, _*_, _≤_, _<_}
+use mathlib.Core.Path.{_≡_, refl, sym, ap, ap₂, _∙_}
+use mathlib.Core.Bool.{Bool, true, cond}
+use mathlib.Core.List.{List, [], _∷_, _++_, map, append-nil}
+use native.Mathlib.Decide.{ℕ-discrete}
+use native.Mathlib.Nat.{mul-le-mul, suc-mul}
+use native.Mathlib.Omega.{arith}
+use borrow.Author.Tests.{eq-eqb, ne-eqb, le-ltb, le-leb}
+use lib.Dec.{eqb}
+use lib.ListN.{length, getD, drop, replicate, length-replicate, getD-replicate, take-append-drop, drop-of-length-le}
+use lib.Seq.{take-at, drop-at, drop-drop, ext-getD}
+use Rattle.little.specs.Parts.{part}
+use Rattle.little.proofs.PartLaws.{length-part, part-part, block-inside}
+use Rattle.sfc.specs.Bytes.{any, zeros}
+use Rattle.sfc.specs.Numbers.{verdict, passes, numberOf}
+use Rattle.sfc.specs.Header.{lengthField, acceptedHeader}
+use Rattle.sfc.specs.Chunk.{chunkLength, lengthChecks, place}
+use Rattle.sfc.specs.Marks.{isHeld, heldCount}
+use Rattle.sfc.specs.Session.{Session, blank}
+use Rattle.sfc.specs.History.{afterAll}
+use Rattle.sfc.specs.Missing.{missing, ranges}
+use Rattle.sfc.specs.HandOut.{Lent, contentChecks, handOutChecks, handOut}
+use Rattle.sfc.specs.NoteTheorems.{among}
+use Rattle.sfc.specs.Writer.{Input, size, blocks, body, payload, chunk, fileOf, headFor}
+use Rattle.sfc.specs.Demand2.{AllBelow, different, received, Lawful, RoomFor}
+use Rattle.sfc_listing.specs.Text.{text, line}
+use Rattle.sfc_listing.specs.Listing.{between, chunksIn, sessionOf, barredCount, missingLines, lastWord, startText, sessionText, listingOf}
+use Rattle.sfc_listing.specs.Steps.{acceptedText}
+use Rattle.sfc_listing.specs.OwnFile.{OwnFile}
+use Rattle.sfc.specs.declared.header.Head.{Head}
+use Rattle.sfc.specs.declared.reason.Reason.{Reason}
+use Rattle.sfc.specs.declared.reason.Checked.the-variants.{Good}
+use Rattle.sfc.specs.declared.handout.HandedOut.the-variants.{Complete, Refused}
+use Rattle.sfc.proofs.CheckLaws.{passed, all-passed, good-all, tells, good-passes}
+use Rattle.sfc.proofs.SessionLaws.{right-lent}
+use Rattle.sfc.proofs.MarkLaws.{right-shape}
+use Rattle.sfc.proofs.InputLaws.{RightInput, right-input}
+use Rattle.sfc.proofs.FileLaws.{length-written}
+use Rattle.sfc.proofs.HeaderBack.{field-back}
+use Rattle.sfc.proofs.ChunkBack.{length-back, length-passed}
+use Rattle.sfc.proofs.DifferentLaws.{held-different}
+use Rattle.sfc.proofs.RoundTrip.{made, received-holds}
+use Rattle.sfc.proofs.Demand1.{handOutSeen}
+use Rattle.sfc.proofs.Demand2.{demand2}
+use Rattle.sfc_listing.proofs.FileLaws.{listing-accepted}
+
+-- ---- the indices in order
+
+-- k numbers, from i on
+upFrom : ℕ → ℕ → List ℕ
+upFrom i zero = []
+upFrom i (suc k) = i ∷ upFrom (suc i) k
+
+up-long : (i k : ℕ) → length (upFrom i k) ≡ k
+unfolding upFrom
+up-long i zero = refl
+up-long i (suc k) = ap suc (up-long (suc i) k)
+
+up-below : (i k n : ℕ) → i + k ≤ n → AllBelow n (upFrom i k)
+unfolding upFrom
+up-below i zero n h = tt
+up-below i (suc k) n h = (omega arith, up-below (suc i) k n (omega arith))
+
+up-has : (i k j : ℕ) → i ≤ j → j < i + k → among j (upFrom i k) ≡ true
+unfolding upFrom any
+up-has i zero j a b = absurd (omega arith)
+up-has i (suc k) j a b = go (ℕ-discrete j i) (λ d. up-has (suc i) k j (omega arith) (omega arith))
+  where
+    go : Dec (j ≡ i) → ((j ≡ i → ⊥) → among j (upFrom (suc i) k) ≡ true) → among j (i ∷ upFrom (suc i) k) ≡ true
+    go (yes d) rec = rw (eq-eqb j i d)
+    go (no d) rec = rw (ne-eqb j i d) (rec d)
+
+-- ---- marks that all say held
+
+all-held : (n : ℕ) → heldCount (replicate n 1) ≡ n
+unfolding heldCount
+all-held zero = refl
+all-held (suc n) = ap suc (all-held n)
+
+none-barred : (n : ℕ) → barredCount (replicate n 1) ≡ 0
+unfolding barredCount
+none-barred zero = refl
+none-barred (suc n) = none-barred n
+
+-- they are as many as the numbers below n, which are thus all different
+up-different : (n : ℕ) → different (upFrom 0 n) ≡ n
+up-different n =
+    let l : length (replicate {A = ℕ} n 1) ≡ n = length-replicate n 1 in
+    sym (held-different (upFrom 0 n) (replicate n 1) (rw l (up-below 0 n n (omega arith)), λ j h. at j (rw l at h))) ∙ all-held n
+  where
+    at : (j : ℕ) → j < n → isHeld (getD (replicate n 1) j 0) ≡ among j (upFrom 0 n)
+    at j h = ap isHeld (getD-replicate n j 1 0 h) ∙ sym (up-has 0 n j (omega arith) (omega arith))
+
+-- ---- what is said of a session with all blocks held and nothing against its content
+
+module _ (h : Head) (x : Session) (full : x .marks ≡ replicate (h .n + h .m) 1) (good : verdict (contentChecks h (x .store) (x .marks)) ≡ Good) where
+  held : heldCount (x .marks) ≡ h .n + h .m
+  held = ap heldCount full ∙ all-held (h .n + h .m)
+
+  none-missing : missing (h .n) (x .marks) ≡ []
+  unfolding missing
+  none-missing = rw (le-leb (h .n) (heldCount (x .marks)) (omega (arith, held)))
+
+  complete-said : lastWord h x ≡ text "complete"
+  unfolding lastWord
+  complete-said = good-all (λ (r : Reason). cond (eqb (numberOf r) 51) (text "hash differs") (text "incomplete")) (contentChecks h (x .store) (x .marks)) (text "complete") good
+
+  all-said : sessionText h x ≡ startText (h .uuid) (h .n) (h .m) (h .size) (h .s) (h .n + h .m) 0 ++ line (text "complete")
+  unfolding sessionText ranges missingLines
+  all-said =
+      let barred : barredCount (x .marks) ≡ 0 = ap barredCount full ∙ none-barred (h .n + h .m) in
+      rw (held, barred, none-missing, complete-said, append-nil (startText (h .uuid) (h .n) (h .m) (h .size) (h .s) (h .n + h .m) 0))
+
+-- ---- the chunks of a file
+
+no-more : (most s : ℕ) → chunksIn most s [] ≡ []
+unfolding chunksIn
+no-more zero s = refl
+no-more (suc most) s = refl
+
+module _ (w : Input) (l : Lawful w) where
+  right : RightInput w
+  right = right-input w (l .uuid-long) (l .right)
+
+  abbrev count : ℕ
+  count = blocks w + w .m
+
+  abbrev width : ℕ
+  width = 84 + w .s
+
+  abbrev chunks : List ℕ
+  chunks = between (fileOf w)
+
+  field : lengthField (fileOf w) ≡ length (body w)
+  unfolding fileOf
+  field = field-back w (l .uuid-long) right _
+
+  file-long : length (fileOf w) ≡ 76 + length (body w) + count * width
+  file-long = demand2 .file-length w l
+
+  is-between : chunks ≡ part (fileOf w) (12 + length (body w)) (count * width)
+  unfolding between
+  is-between =
+      let at : lengthField (fileOf w) + 12 ≡ 12 + length (body w) = omega (arith, field) in
+      let k : length (fileOf w) - 64 - (lengthField (fileOf w) + 12) ≡ count * width = omega (arith, field, file-long) in
+      ap₂ (λ (a n : ℕ). part (fileOf w) a n) at k
+
+  chunks-long : length chunks ≡ count * width
+  chunks-long = ap length is-between ∙ length-part (fileOf w) (12 + length (body w)) (count * width) (omega (arith, file-long))
+
+  module _ (i : ℕ) (h : i < count) where
+    there : part chunks (i * width) width ≡ chunk w i
+    there =
+        ap (λ (b : List ℕ). part b (i * width) width) is-between
+        ∙ part-part (fileOf w) (12 + length (body w)) (count * width) (i * width) width (block-inside width count i h) (omega (arith, file-long))
+        ∙ demand2 .chunk-in-file w l i h
+
+    from : drop (i * width) chunks ≡ chunk w i ++ drop (suc i * width) chunks
+    from =
+        let e : i * width + width ≡ suc i * width = omega (arith, suc-mul i width) in
+        sym (take-append-drop width (drop (i * width) chunks)) ∙ ap₂ _++_ there (drop-drop width (i * width) chunks ∙ ap (λ (k : ℕ). drop k chunks) e)
+
+    -- the walk finds it, and goes on behind it
+    module _ (rest : List ℕ) where
+      taken : passes (lengthChecks (w .s) (chunk w i ++ rest)) ≡ true
+      unfolding chunk
+      taken =
+          let c : List ℕ = chunk w i ++ rest in
+          good-passes (lengthChecks (w .s) c) (all-passed (lengthChecks (w .s) c) (length-passed (headFor w) i (payload w i) rest (made w (l .uuid-long) (right .shape) i h)))
+
+      stepped : chunkLength (chunk w i ++ rest) ≡ width
+      unfolding chunk
+      stepped = ap (λ (k : ℕ). 84 + k) (length-back (headFor w) i (payload w i) rest (made w (l .uuid-long) (right .shape) i h))
+
+      found : (most : ℕ) → chunksIn (suc most) (w .s) (chunk w i ++ rest) ≡ chunk w i ∷ chunksIn most (w .s) rest
+      unfolding chunksIn
+      found most =
+          let n = length-written w (l .uuid-long) (l .right) i in
+          rw (taken, stepped, take-at (chunk w i) rest width n, drop-at (chunk w i) rest width n)
+
+    next : (most : ℕ) → chunksIn (suc most) (w .s) (drop (i * width) chunks) ≡ chunk w i ∷ chunksIn most (w .s) (drop (suc i * width) chunks)
+    next most = ap (chunksIn (suc most) (w .s)) from ∙ found (drop (suc i * width) chunks) most
+
+  walk : (most k i : ℕ) → i + k ≡ count → k ≤ most → chunksIn most (w .s) (drop (i * width) chunks) ≡ map (chunk w) (upFrom i k)
+  unfolding upFrom
+  walk most zero i e h =
+      let c : i ≡ count = omega arith in
+      ap (chunksIn most (w .s)) (drop-of-length-le chunks {i = i * width} (omega (arith, chunks-long, ap (λ (k : ℕ). k * width) c))) ∙ no-more most (w .s)
+  walk zero (suc k) i e h = absurd (omega arith)
+  walk (suc most) (suc k) i e h = next i (omega arith) most ∙ ap (λ (r : List (List ℕ)). chunk w i ∷ r) (walk most k (suc i) (omega arith) (omega arith))
+
+  abbrev all : List ℕ
+  all = upFrom 0 count
+
+  all-chunks : chunksIn (length chunks) (w .s) chunks ≡ map (chunk w) all
+  all-chunks =
+      let z : 0 ≡ 0 * width = omega arith in
+      let m : count * 1 ≤ count * width = mul-le-mul {n₁ = count} {m₁ = 1} {n₂ = count} {m₂ = width} (omega arith) (omega arith) in
+      ap (λ (k : ℕ). chunksIn (length chunks) (w .s) (drop k chunks)) z ∙ walk (length chunks) count 0 (omega arith) (omega (arith, chunks-long))
+
+  -- ---- the session
+
+  is-received : sessionOf (headFor w) (fileOf w) ≡ received w all
+  unfolding sessionOf
+  is-received = ap (afterAll (headFor w) (blank (headFor w))) all-chunks
+
+  few : length all ≤ 4294967295
+  few = let r = right-shape (size w) (blocks w) (w .m) (w .s) (right .shape) in omega (arith, up-long 0 count, r .n-most, r .m-most)
+
+  below : AllBelow count all
+  below = up-below 0 count count (omega arith)
+
+  all-marks : received w all .marks ≡ replicate count 1
+  all-marks =
+      let k = received-holds w (l .uuid-long) (right .shape) (l .content) all below few in
+      let n = right-lent (size w) (blocks w) (w .m) (w .s) (received w all .store) (received w all .marks) (k .right .lent) .marks-long in
+      ext-getD 0 (received w all .marks) (replicate count 1) (n ∙ sym (length-replicate count 1))
+      (λ j u.
+      let h : j < count = omega (arith, n) in
+      k .marks j h ∙ ap (λ (b : Bool). cond b 1 0) (up-has 0 count j (omega arith) (omega arith)) ∙ sym (getD-replicate count j 1 0 h))
+
+  -- with any memory of the right size the hand-out is complete, so that no check of the content refuses
+  content-good : verdict (contentChecks (headFor w) (received w all .store) (received w all .marks)) ≡ Good
+  unfolding handOut
+  content-good =
+      let s : List ℕ = received w all .store in
+      let m : List ℕ = received w all .marks in
+      let d : Lent = record { scratch = zeros (w .m * w .s); numbers = zeros 1024; output = zeros (size w) } in
+      let room : RoomFor w d = record {
+        scratch-long = length-replicate {A = ℕ} (w .m * w .s) 0;
+        numbers-long = length-replicate {A = ℕ} 1024 0;
+        output-long = omega (arith, length-replicate {A = ℕ} (size w) 0);
+      } in
+      let e = demand2 .round-trip w l all below few (omega (arith, up-different count)) d room in
+      let t = tells handOutSeen Refused (Complete (place (size w))) (λ q. refl) refl (handOutChecks (headFor w) s m d) Good (ap (λ r. handOutSeen (r .answer)) e) in
+      all-passed (contentChecks (headFor w) s m) (passed (handOutChecks (headFor w) s m d) t .1 .1)
+
+  -- ---- the listing
+
+  own-file-complete : length (fileOf w) ≤ 65536 → count * w .s ≤ 32768
+      → listingOf (fileOf w) ≡ startText (w .uuid) (blocks w) (w .m) (size w) (w .s) count 0 ++ line (text "complete")
+  unfolding acceptedText
+  own-file-complete short small =
+      sym (listing-accepted (fileOf w) short (acceptedHeader (headFor w)) (sym (demand2 .file-read-back w l)) refl .1)
+      ∙ rw (le-ltb 32768 (count * w .s) small)
+      (ap (sessionText (headFor w)) is-received ∙ all-said (headFor w) (received w all) all-marks content-good)
+
+pub own-file : OwnFile
+own-file = record { own-file-complete = own-file-complete }
