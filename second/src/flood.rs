@@ -1,6 +1,7 @@
 //! Frames of damaged, reordered and forged files without end, for comparison outside the gate; the gate runs a slice of them.
+use crate::chance::Chance;
 use crate::probe::*;
-use crate::probe_cases::{Byte, Chance, Cut, Four, Script};
+use crate::script::{Byte, Cut, Four, Script};
 use crate::writer::{encoded, Plan};
 use std::io::Write;
 
@@ -172,7 +173,7 @@ impl Base {
 }
 
 /// The frames of so many spoilt files.
-pub fn spoilt_files(script: &mut Script, seed: u64, count: usize) {
+fn spoilt_files(script: &mut Script, seed: u64, count: usize) {
     let mut chance = Chance(seed);
     for start in (0..count).step_by(OF_ONE) {
         let base = some_base(&mut chance);
@@ -182,6 +183,11 @@ pub fn spoilt_files(script: &mut Script, seed: u64, count: usize) {
             base.one_file(script, &mut chance);
         }
     }
+}
+
+/// The slice that the gate runs.
+pub fn slice(script: &mut Script) {
+    spoilt_files(script, 0, 256);
 }
 
 /// Writes the frames of so many files to standard output.

@@ -1,7 +1,8 @@
 //! The files beside document 01's example that sfc_list is run on, by name: one for each way that a listing can end, and
 //! one for each number and each of the program's limits that it refuses by.
 use crate::probe::file_left;
-use crate::probe_cases::{headers, others, plan, Script};
+use crate::probe_cases::{headers, others};
+use crate::script::{plan, Script};
 use std::io::Write;
 
 /// Two of four data blocks have not come, and both for recovery have.

@@ -1,6 +1,7 @@
 //! The second program: prints what the proved programs print, computed in another way, for the gate to compare; and writes
 //! the cases that some of them are run on.
 mod blake3;
+mod chance;
 mod code;
 mod code_vectors;
 mod container;
@@ -13,6 +14,7 @@ mod listing_cases;
 mod note;
 mod probe;
 mod probe_cases;
+mod script;
 mod session;
 mod writer;
 
@@ -33,7 +35,7 @@ fn main() {
         ["cauchy_vectors"] => code_vectors::print(),
         ["sfc_probe"] => probe::print(),
         ["sfc_list"] => listing::print(),
-        ["cases", "sfc_probe"] => probe_cases::write(),
+        ["cases", "sfc_probe"] => probe_cases::write(flood::slice),
         ["cases", "sfc_list"] => listing::write_case(),
         ["listings"] => listing_cases::print_names(),
         ["listing", name] => listing_cases::write(name),

@@ -1,6 +1,5 @@
 //! The frames that sfc_probe is run on: written files, every field at its bounds, damage in every byte, and the order of the
 //! checks. A title that begins with D names the case of document 001's appendix that it runs.
-mod chance;
 mod chunks;
 mod extensions;
 mod handouts;
@@ -8,15 +7,12 @@ pub mod headers;
 mod histories;
 mod listings;
 mod notes;
-mod script;
 mod sessions;
 mod writes;
 
-use crate::flood;
 use crate::probe::*;
-pub use chance::Chance;
+use crate::script::*;
 pub use histories::others;
-pub use script::*;
 use std::io::Write;
 
 /// Makes a file of 65,536 bytes with a header of H = 65,460 and no chunk; no field may be longer than 16,384.
@@ -67,13 +63,8 @@ fn harmless(script: &mut Script) {
     script.frame(HEADER_LENGTHS, 0, 65_530, 65_536);
 }
 
-/// A slice of the flood that bench/flood.sh lets loose.
-fn flood_slice(script: &mut Script) {
-    flood::spoilt_files(script, 0, 256);
-}
-
-/// Writes the frames to standard output.
-pub fn write() {
+/// Writes the frames to standard output, those of a part from outside among them.
+pub fn write(part_from_outside: fn(&mut Script)) {
     let parts = [
         chunks::before_a_header,
         notes::before_a_header,
@@ -133,7 +124,7 @@ pub fn write() {
         listings::most_ranges,
         listings::longest_files,
         listings::lent_memory,
-        flood_slice,
+        part_from_outside,
         harmless,
     ];
     let mut script = Script::default();

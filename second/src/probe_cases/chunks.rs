@@ -1,6 +1,6 @@
 //! Chunks: each field at its bounds, damage in every byte, and the order of the checks.
-use super::script::*;
 use crate::probe::*;
+use crate::script::*;
 use crate::writer::Plan;
 
 /// Places of a chunk's fields, counted from its first byte.

@@ -1,7 +1,7 @@
 //! Extension fields: their order, their ends, and the rule of each tag.
 use super::headers::{at, shape};
-use super::script::*;
 use crate::probe::*;
+use crate::script::*;
 use crate::writer::Plan;
 
 /// A header with these bytes behind its priority list.

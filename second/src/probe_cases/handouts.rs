@@ -1,9 +1,9 @@
 //! Hand-outs and block requests: every withheld set of small files, the greatest losses, stores that fit no list, lent
 //! memory, and the order of the checks.
 use super::headers::at;
-use super::script::*;
 use super::sessions::{show, Stage};
 use crate::probe::*;
+use crate::script::*;
 use crate::writer::Plan;
 
 const HELD: u8 = 1;

@@ -1,6 +1,6 @@
 //! Headers: written files, each number and list at its bounds, damage in every byte, and the order of the checks.
-use super::script::*;
 use crate::probe::*;
+use crate::script::*;
 use crate::writer::{encoded, Plan};
 
 /// Places of fields, counted from the file's first byte.

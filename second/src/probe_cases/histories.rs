@@ -1,8 +1,8 @@
 //! Histories of a session: every order of a small collection, and long ones with chance in them.
-use super::chance::Chance;
-use super::script::*;
 use super::sessions::{show, Stage};
+use crate::chance::Chance;
 use crate::probe::*;
+use crate::script::*;
 use crate::writer::Plan;
 
 /// All orders of the numbers below a count.

@@ -1,10 +1,10 @@
 //! Listings: document 01's example, every set of withheld chunks, damage that is stepped over and that ends the reading,
 //! refused headers, the program's limits, and lent memory.
 use super::headers::at;
-use super::script::*;
 use super::{chunks, headers, largest};
 use crate::listing::example;
 use crate::probe::*;
+use crate::script::*;
 use crate::writer::Plan;
 
 /// The least output that is taken.

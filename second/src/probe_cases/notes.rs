@@ -1,8 +1,8 @@
 //! What sessions know: prefix, missing list and note of marks that were offered or lent, and notes that are read.
-use super::script::*;
 use super::sessions::Stage;
 use crate::note::note;
 use crate::probe::*;
+use crate::script::*;
 use crate::writer::Plan;
 
 /// The note of document 01.

@@ -1,7 +1,7 @@
 //! Sessions: fresh chunks, copies and conflicts, every refusal, lent memory, tallies, and offers in several orders.
 use super::chunks::breaches;
-use super::script::*;
 use crate::probe::*;
+use crate::script::*;
 use crate::writer::Plan;
 
 /// A session of a plan: the places of its chunks, and the memory that it wants.

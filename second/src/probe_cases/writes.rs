@@ -1,9 +1,9 @@
 //! Files that are written: inputs at the bounds of each number, list and text and past them, and what is written read back,
 //! offered and handed out.
-use super::chance::Chance;
 use super::extensions::field;
-use super::script::*;
+use crate::chance::Chance;
 use crate::probe::*;
+use crate::script::*;
 use crate::writer::{encoded, Plan};
 
 /// Where the inputs of the frame WRITE have their numbers.
