@@ -8,10 +8,6 @@ use std::io::Write;
 /// How many spoilt files are made from one that was written down.
 const OF_ONE: usize = 8;
 
-fn bytes(chance: &mut Chance, count: usize) -> Vec<u8> {
-    (0..count).map(|_| chance.below(256) as u8).collect()
-}
-
 /// One of several numbers.
 fn pick<T: Copy>(chance: &mut Chance, choices: &[T]) -> T {
     choices[chance.below(choices.len())]
@@ -23,9 +19,9 @@ fn some_plan(chance: &mut Chance) -> Plan {
     let size = blocks * s as usize + chance.below(s as usize + 1);
     let name = chance.below(12);
     let length = chance.below(5);
-    let fields = [(pick(chance, &[0x0001, 0x0013, 0x0200]), bytes(chance, length))];
+    let fields = [(pick(chance, &[0x0001, 0x0013, 0x0200]), chance.bytes(length))];
     let mut plan = Plan {
-        content: bytes(chance, size),
+        content: chance.bytes(size),
         s,
         m: pick(chance, &[0, 1, 1, 2, 2, 3, 5]),
         uuid: std::array::from_fn(|i| (i + chance.below(2)) as u8),
@@ -63,7 +59,7 @@ fn some_chunk(chance: &mut Chance, chunk: &[u8]) -> Vec<u8> {
         0 => chunk.truncate(chance.below(chunk.len())),
         1 => {
             let length = chance.below(9);
-            chunk.extend(bytes(chance, length));
+            chunk.extend(chance.bytes(length));
         }
         _ => {}
     }

@@ -14,6 +14,7 @@ mod listing_cases;
 mod note;
 mod probe;
 mod probe_cases;
+mod recovery_blocks;
 mod script;
 mod session;
 mod writer;
@@ -24,6 +25,7 @@ const USAGE: &str =
        second listings, for the names of the other files that sfc_list is run on;
        second listing NAME, for one of these;
        second flood SEED COUNT, for frames of that many spoilt files, the same for the same seed;
+       second recovery SEED, for recovery blocks of data that the seed gives, to compare with jerasure's;
        second hash LENGTH, for the BLAKE3 hash of so many bytes i mod 251";
 
 fn main() {
@@ -42,6 +44,7 @@ fn main() {
         ["flood", seed, count] => {
             flood::write(seed.parse().expect("SEED is a number"), count.parse().expect("COUNT is a number"));
         }
+        ["recovery", seed] => recovery_blocks::print(seed.parse().expect("SEED is a number")),
         ["hash", length] => {
             let length = length.parse().expect("LENGTH is a number");
             println!("{}", blake3::hex(&blake3::hash(&blake3::pattern(length))));
