@@ -1,8 +1,9 @@
-//! The files beside document 01's example that sfc_list is run on, by name: one for each way that a listing can end, and
-//! one for each number and each of the program's limits that it refuses by.
+//! The files beside document 01's example that sfc_list is run on, by name: one for each way that a listing can end, one for
+//! each number and each of the program's limits that it refuses by, and the longest file that it takes.
 use crate::probe::file_left;
 use crate::probe_cases::{headers, others};
 use crate::script::{plan, Script};
+use crate::writer::{encoded, Plan};
 use std::io::Write;
 
 /// Two of four data blocks have not come, and both for recovery have.
@@ -35,11 +36,12 @@ fn refused(number: u8) -> Vec<u8> {
     file_left(script.0)
 }
 
-/// A whole file, with zeros behind its chunks up to one byte more than the program takes.
-fn long_file() -> Vec<u8> {
-    let plan = plan(14, 4, 1);
-    let zeros = vec![0; 65_537 - plan.file().len()];
-    plan.file_around(&[plan.chunks().concat(), zeros].concat())
+/// A whole file of so many bytes. The chunks fill it, and each is needed, so that none of its bytes can go unread; a field
+/// makes up the length.
+fn whole_file(length: usize) -> Vec<u8> {
+    let plan = plan(387 * 84, 84, 0);
+    let value = vec![0; length - plan.file().len() - 6];
+    Plan { fields: encoded(&[(0x0200, value)]), ..plan }.file()
 }
 
 fn cases() -> Vec<(String, Vec<u8>)> {
@@ -48,7 +50,9 @@ fn cases() -> Vec<(String, Vec<u8>)> {
         ("rebuilt", rebuilt()),
         ("missing-and-barred", missing_and_barred()),
         ("hash-differs", hash_differs()),
-        ("refused-15-long-file", long_file()),
+        // the most bytes that the program takes, and one more
+        ("longest-file", whole_file(65_536)),
+        ("refused-15-long-file", whole_file(65_537)),
         // 145 blocks of 226 bytes are two bytes more than the program's store
         ("refused-15-large-store", plan(32_770, 226, 0).file()),
     ];
