@@ -1,4 +1,5 @@
 //! The answers of the code that `cauchy_vectors` prints, by elimination on the whole system.
+use crate::blake3::hex;
 use crate::code::{decode, recovery};
 
 const DONE: u64 = 0;
@@ -20,12 +21,8 @@ fn digest(start: u64, numbers: impl IntoIterator<Item = u64>) -> u64 {
     numbers.into_iter().fold(start, |sum, x| (sum * 65_599 + x + 1) % 4_294_967_291)
 }
 
-fn wide(bytes: &[u8]) -> impl Iterator<Item = u64> + '_ {
+fn numbers_of(bytes: &[u8]) -> impl Iterator<Item = u64> + '_ {
     bytes.iter().map(|b| u64::from(*b))
-}
-
-fn hex(bytes: &[u8]) -> String {
-    bytes.iter().map(|b| format!("{b:02x}")).collect()
 }
 
 /// A code of n data blocks of s bytes and m recovery blocks.
@@ -45,7 +42,7 @@ struct Left {
 impl Left {
     fn digest(&self, start: u64) -> u64 {
         let answer = std::iter::once(self.answer);
-        digest(start, answer.chain(wide(&self.scratch)).chain(self.numbers.iter().copied()))
+        digest(start, answer.chain(numbers_of(&self.scratch)).chain(self.numbers.iter().copied()))
     }
 }
 
@@ -99,7 +96,7 @@ fn small_codes() {
 fn full_code() {
     let code = Code { n: 1024, m: 32, s: 4 };
     let blocks = code.blocks();
-    println!("1024+32 whole: {:08x}", digest(1, wide(&blocks.concat())));
+    println!("1024+32 whole: {:08x}", digest(1, numbers_of(&blocks.concat())));
     let show = |label: &str, gone: &dyn Fn(usize) -> bool| {
         println!("1024+32 without {label}: {:08x}", code.rebuilt_all(&blocks, gone).digest(1));
     };
@@ -144,7 +141,7 @@ fn recoveries() {
         let good = is_in_bounds(n, m, s) && k < m && n * s == 12 && s == 4;
         let data: Vec<Vec<u8>> = content(12).chunks(4).map(<[u8]>::to_vec).collect();
         let (answer, out) = if good { (DONE, recovery(m, k, &data)) } else { (BAD_SHAPE, vec![0xEE; 4]) };
-        println!("recovery {n} {m} {s} {k}: {answer:08x} {:08x}", digest(1, wide(&out)));
+        println!("recovery {n} {m} {s} {k}: {answer:08x} {:08x}", digest(1, numbers_of(&out)));
     }
 }
 
@@ -154,7 +151,7 @@ fn rebuilds() {
     for (n, m, s) in shapes {
         let good = is_in_bounds(n, m, s) && n + m == 5 && (n + m) * s == 20 && m * s == 8;
         let answer = if good { DONE } else { BAD_SHAPE };
-        println!("rebuild {n} {m} {s}: {answer:08x} {:08x}", digest(1, wide(&[0xEE; 8])));
+        println!("rebuild {n} {m} {s}: {answer:08x} {:08x}", digest(1, numbers_of(&[0xEE; 8])));
     }
 }
 

@@ -184,7 +184,7 @@ fn check_trailer(region: &[u8], trailer: &[u8]) -> Result<(), u8> {
     must(hashed == hash(region), 23)
 }
 
-/// The index and the payload of a whole chunk; bytes behind it are not looked at.
+/// The index and the payload of a whole chunk; bytes after it are not looked at.
 pub fn check_chunk<'a>(head: &Head, input: &'a [u8]) -> Result<(u64, &'a [u8]), u8> {
     must(is_shape_lawful(head), 71)?;
     let mut rest = Rest(input);

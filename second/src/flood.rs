@@ -52,7 +52,7 @@ fn shuffle<T>(chance: &mut Chance, parts: &mut [T]) {
     }
 }
 
-/// A chunk as it was written down: mostly whole, else cut short or with bytes behind it.
+/// A chunk as it was written down: mostly whole, else cut short or with bytes after it.
 fn some_chunk(chance: &mut Chance, chunk: &[u8]) -> Vec<u8> {
     let mut chunk = chunk.to_vec();
     match chance.below(32) {

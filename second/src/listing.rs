@@ -2,7 +2,7 @@
 use crate::blake3::hex;
 use crate::container::{must, read_header, Head};
 use crate::hand_out::{Lent, Scratch};
-use crate::note::{missing, ranges, HELD};
+use crate::note::{missing, ranges, BARRED, HELD};
 use crate::session::Session;
 use crate::writer::Plan;
 use std::io::{Read, Write};
@@ -11,7 +11,7 @@ use std::io::{Read, Write};
 const FILE: usize = 65_536;
 const STORE: u64 = 32_768;
 
-/// The chunks of a file, offered one behind the other; the first that is cut short, none, or too long ends them.
+/// The chunks of a file, offered one after the other; the first that is cut short, none, or too long ends them.
 fn offer_all(session: &mut Session, head: &Head, chunks: &[u8]) {
     let mut rest = chunks;
     while !matches!(session.offer(head, rest), Err(30..=32)) {
@@ -32,7 +32,7 @@ fn lines(file: &[u8]) -> Result<Vec<String>, u8> {
     let mut lines = vec![
         format!("sfc uuid={}", hex(&head.uuid)),
         format!("blocks={} recovery={} size={} block={}", head.n, head.m, head.size, head.s),
-        format!("held={} barred={}", count(HELD), count(2)),
+        format!("held={} barred={}", count(HELD), count(BARRED)),
     ];
     lines.extend(ranges(&missing(&head, &marks)?).iter().map(|(first, last)| format!("missing {first}-{last}")));
     let mut scratch = Scratch { bytes: vec![0; (head.m * head.s) as usize], numbers: vec![0; 1024] };

@@ -1,7 +1,7 @@
 //! The files beside document 01's example that sfc_list is run on, by name: one for each way that a listing can end, one for
 //! each number and each of the program's limits that it refuses by, and the longest file that it takes.
 use crate::probe::file_left;
-use crate::probe_cases::{headers, others};
+use crate::probe_cases::{conflicting_chunks, headers};
 use crate::script::{plan, Script};
 use crate::writer::{encoded, Plan};
 use std::io::Write;
@@ -16,16 +16,16 @@ fn rebuilt() -> Vec<u8> {
 fn missing_and_barred() -> Vec<u8> {
     let plan = plan(38, 4, 3);
     let chunks = plan.chunks_of(&[0, 3, 4, 5, 6, 7, 9, 10, 11, 12]);
-    plan.file_around(&[&chunks[..], &others(&plan)[6]].concat())
+    plan.file_around(&[&chunks[..], &conflicting_chunks(&plan)[6]].concat())
 }
 
 /// Every chunk is good, but of another content than the header's.
 fn hash_differs() -> Vec<u8> {
     let plan = plan(14, 4, 1);
-    plan.file_around(&others(&plan).concat())
+    plan.file_around(&conflicting_chunks(&plan).concat())
 }
 
-/// A header with one breach; nothing lies behind it but the trailer, or a file cut short would still be long enough.
+/// A header with one breach; nothing comes after it but the trailer, or a file cut short would still be long enough.
 fn refused(number: u8) -> Vec<u8> {
     let file = headers::breakable().file_around(&[]);
     let breaches = headers::breaches(file.len());

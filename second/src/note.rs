@@ -2,6 +2,7 @@
 use crate::container::{is_shape_lawful, Head};
 
 pub const HELD: u8 = 1;
+pub const BARRED: u8 = 2;
 
 /// Whether the numbers pass 14 and 15, and there is a mark of at most 2 for each block.
 fn are_marks_right(head: &Head, marks: &[u8]) -> bool {

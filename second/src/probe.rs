@@ -8,6 +8,7 @@ use crate::container::{check_chunk, find_field, read_header, Head};
 use crate::note::{missing, note, prefix, ranges, read_note};
 use crate::session::Session;
 use hand_outs::Call;
+pub use listings::{LEAST_OUTPUT, OTHER_LENGTH};
 use std::io::Read;
 
 pub const SAY: u8 = 1;
@@ -200,7 +201,8 @@ impl Probe {
         print_runs(0, &damaged(chunk, 0..chunk.len(), mask, seal, answer));
     }
 
-    fn edit(&mut self, opcode: u8, small: u8, a: usize, b: usize) {
+    /// Frames that change the file at hand.
+    fn edit_frame(&mut self, opcode: u8, small: u8, a: usize, b: usize) {
         let length = self.file.len();
         match opcode {
             KEEP => self.kept = self.file.clone(),
@@ -233,7 +235,7 @@ impl Probe {
 
     fn check(&self, part: std::ops::Range<usize>) {
         match check_chunk(&self.head, &self.file[part]) {
-            // the payload lies behind the header of 48 bytes
+            // the payload comes after the header of 48 bytes
             Ok((index, _)) => println!("whole {index} 48"),
             Err(number) => println!("{number}"),
         }
@@ -256,7 +258,7 @@ impl Probe {
         println!("tallies {}", tallies.join(" "));
     }
 
-    /// A session on memory as the file has it: first the marks, behind them the store.
+    /// A session on memory as the file has it: first the marks, after them the store.
     fn lend(&mut self, store: usize, marks: usize) {
         let (lent_marks, rest) = self.file.split_at(marks.min(self.file.len()));
         let lent_store = &rest[..store.min(rest.len())];
@@ -303,7 +305,7 @@ impl Probe {
     }
 
     /// Frames of what a session knows, and of notes.
-    fn tell(&mut self, opcode: u8, a: usize) {
+    fn note_frame(&mut self, opcode: u8, a: usize) {
         match opcode {
             PREFIX => self.give_prefix(a.min(ROOM)),
             LIST_MISSING => self.list_missing(a.min(NUMBERS)),
@@ -326,7 +328,7 @@ impl Probe {
     }
 
     /// Frames that ask for what a session gives back, and for a listing.
-    fn give_back(&self, opcode: u8, small: u8, a: usize, b: usize) {
+    fn give_back_frame(&self, opcode: u8, small: u8, a: usize, b: usize) {
         match opcode {
             HAND_OUT => self.ask_for(Call::HandOut, a),
             BLOCK => self.ask_for(Call::Block(a), b),
@@ -339,7 +341,7 @@ impl Probe {
     }
 
     /// Frames of a session.
-    fn serve(&mut self, opcode: u8, small: u8, a: usize, b: usize) {
+    fn session_frame(&mut self, opcode: u8, small: u8, a: usize, b: usize) {
         match opcode {
             BEGIN => {
                 let mut marks = vec![0; b.min(MARKS)];
@@ -359,7 +361,8 @@ impl Probe {
         }
     }
 
-    fn ask(&mut self, opcode: u8, small: u8, a: usize, b: usize) {
+    /// Frames of a header, a field or a chunk.
+    fn reader_frame(&mut self, opcode: u8, small: u8, a: usize, b: usize) {
         let part = clipped(self.file.len(), a, b);
         match opcode {
             READ_HEADER => self.read(),
@@ -394,7 +397,7 @@ impl Probe {
     }
 }
 
-/// Answers frames, and gives what is at hand behind the last.
+/// Answers frames, and gives what is at hand after the last.
 fn answer(frames: Vec<u8>) -> Probe {
     let mut input = Input(frames.into_iter());
     // before a header is read, chunks are held to one of zeros
@@ -414,11 +417,11 @@ fn answer(frames: Vec<u8>) -> Probe {
                 probe.kept = probe.file.clone();
             }
             _ => {
-                probe.edit(opcode, small, a, b);
-                probe.ask(opcode, small, a, b);
-                probe.serve(opcode, small, a, b);
-                probe.tell(opcode, a);
-                probe.give_back(opcode, small, a, b);
+                probe.edit_frame(opcode, small, a, b);
+                probe.reader_frame(opcode, small, a, b);
+                probe.session_frame(opcode, small, a, b);
+                probe.note_frame(opcode, a);
+                probe.give_back_frame(opcode, small, a, b);
             }
         }
     }

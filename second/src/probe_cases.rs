@@ -12,11 +12,11 @@ mod writes;
 
 use crate::probe::*;
 use crate::script::*;
-pub use histories::others;
+pub use histories::conflicting_chunks;
 use std::io::Write;
 
 /// Makes a file of 65,536 bytes with a header of H = 65,460 and no chunk; no field may be longer than 16,384.
-fn largest(script: &mut Script) {
+fn load_longest_header(script: &mut Script) {
     let mut at = 343;
     script.load(&plan(14, 4, 1).file_around(&[])[..at]);
     script.frame(GROW, 0, 65_536 - at, 0);
@@ -29,7 +29,7 @@ fn largest(script: &mut Script) {
 }
 
 /// Frames with numbers that are out of range: as much is done as there is.
-fn harmless(script: &mut Script) {
+fn frames_out_of_range(script: &mut Script) {
     let most = u32::MAX as usize;
     script.say("frames out of range");
     script.frame(READ_HEADER, 9, most, most);
@@ -57,78 +57,89 @@ fn harmless(script: &mut Script) {
     script.read();
     script.check(0, 0);
     script.say("the largest header that the buffer holds, and a byte more than it holds");
-    largest(script);
+    load_longest_header(script);
     script.frame(GROW, 1, most, 0);
     script.read();
     script.frame(HEADER_LENGTHS, 0, 65_530, 65_536);
 }
 
+/// Some frames that are about one thing.
+type Part = fn(&mut Script);
+
+const BEFORE_A_HEADER: &[Part] = &[chunks::before_a_header, notes::before_a_header, handouts::before_a_header];
+
+const READING: &[Part] = &[
+    headers::written_files,
+    headers::numbers_at_bounds,
+    headers::identifiers_and_flags,
+    headers::header_lengths,
+    headers::priority_lists,
+    extensions::extension_order,
+    extensions::extension_ends,
+    extensions::extension_rules,
+    extensions::lookups,
+    headers::damaged_headers,
+    headers::header_order,
+    chunks::damaged_chunks,
+    chunks::chunk_fields,
+    chunks::chunk_order,
+];
+
+const SESSIONS: &[Part] = &[
+    sessions::offers_and_copies,
+    sessions::every_refusal,
+    sessions::lent_memory,
+    sessions::full_tallies,
+    sessions::any_order,
+    histories::every_order,
+    histories::long_histories,
+];
+
+const NOTES: &[Part] = &[
+    notes::worked_note,
+    notes::every_set_of_marks,
+    notes::sizes,
+    notes::wrong_memory,
+    notes::wrong_numbers,
+    notes::largest_session,
+    notes::damaged_notes,
+    notes::ranges_of_notes,
+    notes::starts_of_notes,
+];
+
+const HAND_OUTS: &[Part] = &[
+    handouts::offered_sessions,
+    handouts::every_withheld_set,
+    handouts::stores_that_fit_no_list,
+    handouts::greatest_losses,
+    handouts::sizes,
+    handouts::wrong_content,
+    handouts::wrong_memory,
+    handouts::wrong_numbers,
+    handouts::order_of_checks,
+];
+
+const WRITES: &[Part] = &[writes::round_trips, writes::numbers, writes::names, writes::lists, writes::fields];
+
+const LISTINGS: &[Part] = &[
+    listings::whole_files,
+    listings::withheld_sets,
+    listings::damaged_chunks,
+    listings::lengths,
+    listings::copies,
+    listings::refused_headers,
+    listings::numbers,
+    listings::full_store,
+    listings::most_ranges,
+    listings::longest_files,
+    listings::lent_memory,
+];
+
 /// Writes the frames to standard output, those of a part from outside among them.
-pub fn write(part_from_outside: fn(&mut Script)) {
-    let parts = [
-        chunks::before_a_header,
-        notes::before_a_header,
-        handouts::before_a_header,
-        headers::written_files,
-        headers::numbers_at_bounds,
-        headers::identifiers_and_flags,
-        headers::header_lengths,
-        headers::priority_lists,
-        extensions::extension_order,
-        extensions::extension_ends,
-        extensions::extension_rules,
-        extensions::lookups,
-        headers::damaged_headers,
-        headers::header_order,
-        chunks::damaged_chunks,
-        chunks::chunk_fields,
-        chunks::chunk_order,
-        sessions::offers_and_copies,
-        sessions::every_refusal,
-        sessions::lent_memory,
-        sessions::full_tallies,
-        sessions::any_order,
-        histories::every_order,
-        histories::long_histories,
-        notes::worked_note,
-        notes::every_set_of_marks,
-        notes::sizes,
-        notes::wrong_memory,
-        notes::wrong_numbers,
-        notes::largest_session,
-        notes::damaged_notes,
-        notes::ranges_of_notes,
-        notes::starts_of_notes,
-        handouts::offered_sessions,
-        handouts::every_withheld_set,
-        handouts::stores_that_fit_no_list,
-        handouts::greatest_losses,
-        handouts::sizes,
-        handouts::wrong_content,
-        handouts::wrong_memory,
-        handouts::wrong_numbers,
-        handouts::order_of_checks,
-        writes::round_trips,
-        writes::numbers,
-        writes::names,
-        writes::lists,
-        writes::fields,
-        listings::whole_files,
-        listings::withheld_sets,
-        listings::damaged_chunks,
-        listings::lengths,
-        listings::copies,
-        listings::refused_headers,
-        listings::numbers,
-        listings::full_store,
-        listings::most_ranges,
-        listings::longest_files,
-        listings::lent_memory,
-        part_from_outside,
-        harmless,
-    ];
+pub fn write(part_from_outside: Part) {
     let mut script = Script::default();
-    for part in parts {
+    let last = [part_from_outside, frames_out_of_range];
+    for part in [BEFORE_A_HEADER, READING, SESSIONS, NOTES, HAND_OUTS, WRITES, LISTINGS, &last].concat() {
         part(&mut script);
     }
     std::io::stdout().write_all(&script.0).expect("standard output can be written");

@@ -29,9 +29,9 @@ pub fn encoded(fields: &[(u16, Vec<u8>)]) -> Vec<u8> {
 fn tags(fields: &[u8]) -> Vec<u16> {
     let mut tags = Vec::new();
     let mut rest = fields;
-    while let Some((start, behind)) = rest.split_at_checked(6) {
+    while let Some((start, left)) = rest.split_at_checked(6) {
         let length = u32::from_le_bytes(start[2..].try_into().unwrap());
-        let Some(next) = behind.get(length as usize..) else { break };
+        let Some(next) = left.get(length as usize..) else { break };
         tags.push(u16::from_le_bytes([start[0], start[1]]));
         rest = next;
     }
@@ -100,7 +100,7 @@ impl Plan {
         numbered.map(|(index, (block, kind))| self.chunk(index, kind, &block)).collect()
     }
 
-    /// The chunks with these indices, one behind the other.
+    /// The chunks with these indices, one after the other.
     pub fn chunks_of(&self, indices: &[usize]) -> Vec<u8> {
         let chunks = self.chunks();
         indices.iter().flat_map(|&index| chunks[index].clone()).collect()

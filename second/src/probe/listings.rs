@@ -7,15 +7,15 @@ use crate::listing::listing;
 /// How many parts each piece of lent memory has to have: store, marks, scratch, its numbers, content, bounds.
 const DESK: [usize; 6] = [32_768, 1_056, 32_768, 1_024, 32_768, 1_024];
 /// The small number of a frame that gives the file another length.
-const FILE: u8 = 7;
-/// The least output.
-const OUTPUT: usize = 32_768;
+pub const OTHER_LENGTH: u8 = 7;
+/// The least output that is taken.
+pub const LEAST_OUTPUT: usize = 32_768;
 
 impl Probe {
-    /// The file, with zeros behind its end, or its front, where another length is asked for.
+    /// The file, with zeros after its end, or its front, where another length is asked for.
     fn lengthened(&self, piece: u8, length: usize) -> Vec<u8> {
         let mut file = self.file.clone();
-        if piece == FILE {
+        if piece == OTHER_LENGTH {
             file.resize(length.min(ROOM + 1), 0);
         }
         file
@@ -29,7 +29,7 @@ impl Probe {
         }
         let room = room.min(ROOM);
         let is_desk_right = desk.iter().map(Vec::len).eq(DESK);
-        let allowed = must(is_desk_right, 71).and_then(|()| must(OUTPUT <= room, 52));
+        let allowed = must(is_desk_right, 71).and_then(|()| must(LEAST_OUTPUT <= room, 52));
         if allowed.is_ok() {
             desk.iter_mut().for_each(|lent_piece| lent_piece.fill(0));
         }
@@ -38,10 +38,10 @@ impl Probe {
             Ok(count) => print!("listed {count}"),
             Err(number) => print!("{number}"),
         }
-        let (text, behind) = output.split_at(answer.unwrap_or(0));
+        let (text, after_text) = output.split_at(answer.unwrap_or(0));
         let word = |parts: &[u8]| state_word(state(parts, PATTERN.into()));
         let words: Vec<&str> = desk.iter().map(|lent_piece| word(lent_piece)).collect();
-        println!(" behind {} desk {}", word(behind), words.join(" "));
+        println!(" behind {} desk {}", word(after_text), words.join(" "));
         print!("{}", String::from_utf8_lossy(text));
     }
 }

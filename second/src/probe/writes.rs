@@ -7,8 +7,8 @@ const INDICES: usize = 2_048;
 
 /// Takes as many bytes off the front as there are.
 fn take<'a>(rest: &mut &'a [u8], count: usize) -> &'a [u8] {
-    let (front, behind) = rest.split_at(count.min(rest.len()));
-    *rest = behind;
+    let (front, left) = rest.split_at(count.min(rest.len()));
+    *rest = left;
     front
 }
 

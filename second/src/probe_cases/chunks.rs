@@ -121,7 +121,7 @@ pub fn breaches(at: usize) -> Vec<Breach> {
         breach(37, &[Four(at + in_chunk::KIND, 3)], &[]),
         breach(38, &[Byte(at + in_chunk::RESERVED, 1)], &[]),
         breach(39, &[Byte(at + in_chunk::ERASURE, 0)], &[]),
-        // six bytes of payload, and an end marker behind their hash
+        // six bytes of payload, and an end marker after their hash
         breach(40, &[Four(at + in_chunk::LENGTH, 6), Four(at + 86, END_MARKER)], &[]),
     ]
 }

@@ -4,7 +4,7 @@ use crate::probe::*;
 use crate::script::*;
 use crate::writer::Plan;
 
-/// A header with these bytes behind its priority list.
+/// A header with these bytes after its priority list.
 fn extended(flags: u16, extension: &[u8]) -> Vec<u8> {
     let mut file = Plan { flags, ..plan(18, 4, 2) }.file_around(&[]);
     let trailer = file.split_off(file.len() - 64);
@@ -46,8 +46,8 @@ pub fn extension_order(script: &mut Script) {
 pub fn extension_ends(script: &mut Script) {
     for left in 1..6 {
         extension(script, &format!("{left} bytes that are no field"), 0, &text(left));
-        let behind = [field(0x0200, 2, 2), vec![0xFF; left]].concat();
-        extension(script, &format!("{left} bytes behind a field"), 0, &behind);
+        let more = [field(0x0200, 2, 2), vec![0xFF; left]].concat();
+        extension(script, &format!("{left} bytes behind a field"), 0, &more);
     }
     extension(script, "D.24 an empty unknown field", 0, &field(0x0200, 0, 0));
     extension(script, "D.15 an unknown field up to the region's end", 0, &field(0x0200, 300, 300));

@@ -1,12 +1,12 @@
 //! Hand-outs and block requests: every withheld set of small files, the greatest losses, stores that fit no list, lent
 //! memory, and the order of the checks.
 use super::headers::at;
-use super::sessions::{show, Stage};
+use super::sessions::{each_head_number, set_head_numbers, show, Stage, AT_HOUSE_LIMITS};
+use crate::note::HELD;
 use crate::probe::*;
 use crate::script::*;
 use crate::writer::Plan;
 
-const HELD: u8 = 1;
 /// How many numbers of scratch are right.
 const NUMBERS: usize = 1024;
 
@@ -43,18 +43,18 @@ fn lend(script: &mut Script, marks: &[u8], store: &[u8]) {
     script.frame(LEND, 0, store.len(), marks.len());
 }
 
-/// The blocks behind each other, those not held with other bytes in their place.
-fn seen(plan: &Plan, marks: &[u8]) -> Vec<u8> {
+/// The blocks one after the other, those not held with other bytes in their place.
+fn store_of(plan: &Plan, marks: &[u8]) -> Vec<u8> {
     let blocks = plan.blocks().into_iter().zip(marks);
     let other = |byte: &u8| byte ^ 0x5A;
     blocks.flat_map(|(block, &mark)| if mark == HELD { block } else { block.iter().map(other).collect() }).collect()
 }
 
 /// A session of a plan with these marks.
-fn stand(script: &mut Script, title: &str, plan: &Plan, marks: &[u8]) {
+fn lend_session(script: &mut Script, title: &str, plan: &Plan, marks: &[u8]) {
     script.say(title);
     set_head(script, plan);
-    lend(script, marks, &seen(plan, marks));
+    lend(script, marks, &store_of(plan, marks));
 }
 
 /// Before a header is read size, N, M and S are 0, and nothing is lent.
@@ -152,13 +152,13 @@ pub fn every_withheld_set(script: &mut Script) {
     for plan in small_plans() {
         let (n, m) = (plan.data_count(), plan.m as usize);
         let case = if (n, m) == (3, 2) { "D.12 " } else { "" };
-        stand(script, &format!("{case}each set of held blocks of N = {n}, M = {m}"), &plan, &vec![1; n + m]);
+        lend_session(script, &format!("{case}each set of held blocks of N = {n}, M = {m}"), &plan, &vec![1; n + m]);
         sweep(script, &plan, 2);
     }
     for plan in small_plans() {
         let (n, m) = (plan.data_count(), plan.m as usize);
         if n + m <= 4 {
-            stand(
+            lend_session(
                 script,
                 &format!("each set of marks up to 2, and up to 3, of N = {n}, M = {m}"),
                 &plan,
@@ -169,7 +169,7 @@ pub fn every_withheld_set(script: &mut Script) {
         }
     }
     let plan = plan(11, 4, 2);
-    stand(script, "D.23 each set of marks up to 2 of N = 3, M = 2", &plan, &[1; 5]);
+    lend_session(script, "D.23 each set of marks up to 2 of N = 3, M = 2", &plan, &[1; 5]);
     sweep(script, &plan, 3);
 }
 
@@ -193,7 +193,7 @@ pub fn stores_that_fit_no_list(script: &mut Script) {
     for forged in 0..5 {
         script.say(&format!("each set of held blocks of N = 3, M = 2, with block {forged} forged"));
         set_head(script, &plan);
-        let mut store = seen(&plan, &marks);
+        let mut store = store_of(&plan, &marks);
         store[4 * forged + 1] ^= 0x80;
         lend(script, &marks, &store);
         sweep(script, &plan, 2);
@@ -220,7 +220,7 @@ pub fn greatest_losses(script: &mut Script) {
     ];
     for (n, gone) in cases {
         let plan = plan(2 * n - 1, 2, 32);
-        stand(script, &format!("N = {n}, M = 32, S = 2, gone {gone:?}"), &plan, &all_but(n + 32, &gone, 0));
+        lend_session(script, &format!("N = {n}, M = 32, S = 2, gone {gone:?}"), &plan, &all_but(n + 32, &gone, 0));
         hand_out(script, &[2 * n - 2, 2 * n - 1]);
         block(script, &[gone[0], gone[gone.len() - 1], n - 1, n], 2);
     }
@@ -235,7 +235,7 @@ pub fn greatest_losses(script: &mut Script) {
         ("31 of 40 blocks and the last recovery block gone", all_but(72, &gone(&[71])[1..], 0)),
         ("only the recovery blocks held", all_but(72, &(0..40).collect::<Vec<_>>(), 0)),
     ] {
-        stand(script, title, &plan, &marks);
+        lend_session(script, title, &plan, &marks);
         hand_out(script, &[79]);
         block(script, &[0, 31, 39], 2);
     }
@@ -249,7 +249,7 @@ pub fn sizes(script: &mut Script) {
         for gone in [vec![], vec![0], vec![count - 1]] {
             script.say(&format!("size {size}, S = 4, M = {m}, gone {gone:?}"));
             let marks = all_but(count, &gone, 0);
-            lend(script, &marks, &seen(&plan, &marks));
+            lend(script, &marks, &store_of(&plan, &marks));
             hand_out(script, &[size.saturating_sub(1), size, size + 1]);
             block(script, &[0, count - m as usize - 1], 4);
         }
@@ -260,7 +260,7 @@ pub fn sizes(script: &mut Script) {
     hand_out(script, &[0, 1]);
     block(script, &[0], 4096);
     let plan = plan(2 * 4096 - 9, 4096, 1);
-    stand(script, "S = 4,096, the second block gone", &plan, &[1, 0, 1]);
+    lend_session(script, "S = 4,096, the second block gone", &plan, &[1, 0, 1]);
     hand_out(script, &[8182, 8183, 8192]);
     block(script, &[0, 1], 4096);
     block(script, &[1], 4095);
@@ -275,7 +275,7 @@ fn held_zeros(script: &mut Script, store: usize, marks: usize) {
 pub fn wrong_content(script: &mut Script) {
     let plan = plan(5, 4, 1);
     let marks = [1, 1, 0];
-    let store = seen(&plan, &marks);
+    let store = store_of(&plan, &marks);
     for (place, what) in
         [(0, "the first byte"), (3, "a byte"), (4, "the last byte"), (5, "the padding"), (7, "its end")]
     {
@@ -287,7 +287,7 @@ pub fn wrong_content(script: &mut Script) {
         hand_out(script, &[5, 8]);
         // the recovery block of the changed blocks gives them back
         let changed = Plan { content: forged[..8].to_vec(), ..plan.clone() };
-        lend(script, &[1, 0, 1], &seen(&changed, &[1, 0, 1]));
+        lend(script, &[1, 0, 1], &store_of(&changed, &[1, 0, 1]));
         hand_out(script, &[5, 8]);
         block(script, &[0, 1], 4);
     }
@@ -308,72 +308,55 @@ pub fn wrong_content(script: &mut Script) {
     }
 }
 
+/// A hand-out and a block request of the session with size 5, N = 3, M = 2 and S = 2.
+fn ask_both(script: &mut Script) {
+    hand_out(script, &[6]);
+    block(script, &[1], 3);
+}
+
 /// 71 of the lent memory.
 pub fn wrong_memory(script: &mut Script) {
     let plan = plan(5, 2, 2);
     let marks = [1, 0, 1, 1, 2];
-    let ask = |script: &mut Script| {
-        hand_out(script, &[6]);
-        block(script, &[1], 3);
-    };
-    stand(script, "N = 3, M = 2, S = 2, a mark above 2 in each place", &plan, &marks);
-    ask(script);
+    lend_session(script, "N = 3, M = 2, S = 2, a mark above 2 in each place", &plan, &marks);
+    ask_both(script);
     for place in 0..5 {
         for mark in [2, 3, 255] {
             script.edit(&[Byte(place, mark)]);
             script.frame(LEND, 0, 10, 5);
-            ask(script);
+            ask_both(script);
             script.restore();
         }
     }
     for (store, count) in [(9, 5), (11, 5), (0, 5), (8, 5), (10, 4), (10, 6), (10, 0), (0, 0)] {
         script.say(&format!("a store of {store} bytes and {count} marks"));
         lend(script, &[1, 0, 1, 1, 2, 0][..count], &text(store));
-        ask(script);
+        ask_both(script);
     }
-    lend(script, &marks, &seen(&plan, &marks));
-    for (bytes, numbers) in
-        [(4, 1024), (3, 1024), (5, 1024), (0, 1024), (8, 1024), (65_536, 1024), (4, 1023), (4, 1025)]
-    {
+    lend(script, &marks, &store_of(&plan, &marks));
+    #[rustfmt::skip]
+    let scratches = [
+        (4, 1024), (3, 1024), (5, 1024), (0, 1024), (8, 1024), (65_536, 1024), (4, 1023), (4, 1025),
+        (4, 0), (4, 1), (0, 0), (3, 1023),
+    ];
+    for (bytes, numbers) in scratches {
         script.say(&format!("a scratch of {bytes} bytes and {numbers} numbers"));
         script.frame(SCRATCH, 0, bytes, numbers);
-        ask(script);
+        ask_both(script);
     }
-    for (bytes, numbers) in [(4, 0), (4, 1), (0, 0), (3, 1023)] {
-        script.say(&format!("a scratch of {bytes} bytes and {numbers} numbers"));
-        script.frame(SCRATCH, 0, bytes, numbers);
-        ask(script);
-    }
-    stand(script, "M = 0 with and without scratch", &Plan { m: 0, ..plan }, &[1; 3]);
-    ask(script);
+    lend_session(script, "M = 0 with and without scratch", &Plan { m: 0, ..plan }, &[1; 3]);
+    ask_both(script);
     script.frame(SCRATCH, 0, 1, 1024);
-    ask(script);
+    ask_both(script);
 }
 
 /// 71 of size, N, M and S.
 pub fn wrong_numbers(script: &mut Script) {
-    const NAMES: [&str; 4] = ["size", "N", "M", "S"];
-    let numbers = [
-        (5, vec![0, 4, 5, 6, 7, most()]),
-        (3, vec![0, 2, 3, 4, 1025, 65_535, most()]),
-        (2, vec![0, 1, 2, 3, 33, 65_534, most()]),
-        (2, vec![0, 1, 2, 3, 4, 4098, 268_435_456, most()]),
-    ];
-    stand(script, "right are size 5, N = 3, M = 2, S = 2", &plan(5, 2, 2), &[1, 0, 1, 1, 0]);
-    for (which, (right, values)) in numbers.into_iter().enumerate() {
-        for value in values {
-            script.say(&format!("{} {value}", NAMES[which]));
-            script.frame(SET_HEAD, which as u8, value, 0);
-            hand_out(script, &[6]);
-            block(script, &[1], 3);
-        }
-        script.frame(SET_HEAD, which as u8, right, 0);
-    }
-    for (size, n, m, s) in [(2050, 1025, 0, 2), (2, 1, 33, 2), (4098, 1, 0, 4098), (4096, 1, 0, 4096), (2, 1, 32, 2)] {
+    lend_session(script, "right are size 5, N = 3, M = 2, S = 2", &plan(5, 2, 2), &[1, 0, 1, 1, 0]);
+    each_head_number(script, ask_both);
+    for (size, n, m, s) in AT_HOUSE_LIMITS {
         script.say(&format!("size {size}, N = {n}, M = {m}, S = {s}, with memory to match"));
-        for (which, value) in [size, n, m, s].into_iter().enumerate() {
-            script.frame(SET_HEAD, which as u8, value, 0);
-        }
+        set_head_numbers(script, [size, n, m, s]);
         held_zeros(script, (n + m) * s, n + m);
         script.frame(SCRATCH, 0, m * s, NUMBERS);
         hand_out(script, &[4098]);
@@ -397,7 +380,7 @@ pub fn order_of_checks(script: &mut Script) {
     ] {
         script.say(&format!("{title}, with room and without, and 53"));
         set_head(script, &plan);
-        let mut store = seen(&plan, &marks);
+        let mut store = store_of(&plan, &marks);
         store[0] ^= change;
         lend(script, &marks, &store);
         hand_out(script, &[11, 10, 0]);
@@ -408,7 +391,7 @@ pub fn order_of_checks(script: &mut Script) {
         show(script);
     }
     let room = 65_536;
-    stand(script, "the largest output", &plan, &[1, 1, 0, 1, 0]);
+    lend_session(script, "the largest output", &plan, &[1, 1, 0, 1, 0]);
     hand_out(script, &[64, 65, room, most()]);
     block(script, &[2], 64);
     block(script, &[2], room);

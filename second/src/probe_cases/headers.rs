@@ -20,7 +20,7 @@ pub mod at {
     pub const LIST: usize = 343;
 }
 
-/// A written file, read, and each of its chunks checked, alone and with all that lies behind it.
+/// A written file, read, and each of its chunks checked, alone and with all that comes after it.
 fn written(script: &mut Script, title: &str, plan: &Plan) {
     script.file(title, &plan.file());
     for (at, length) in places(plan) {
@@ -53,9 +53,8 @@ pub fn written_files(script: &mut Script) {
     written(script, "fields of every rule", &every_rule());
     written(script, "a name of 255 bytes", &Plan { name: text(255), ..plan(3, 4, 0) });
     written(script, "no name", &Plan { name: Vec::new(), ..plan(3, 4, 0) });
-    let mut behind = plan(3, 4, 0);
-    behind.name = b"one\0two".to_vec();
-    written(script, "D.26 bytes behind the name's end", &behind);
+    let name = b"one\0two".to_vec();
+    written(script, "D.26 bytes behind the name's end", &Plan { name, ..plan(3, 4, 0) });
 }
 
 /// Size, N, M and S, with the erasure identifier that suits M.
@@ -97,6 +96,21 @@ pub fn numbers_at_bounds(script: &mut Script) {
 
 pub fn identifiers_and_flags(script: &mut Script) {
     script.load(&plan(18, 4, 2).file_around(&[]));
+    identifiers(script);
+    for bit in 0..16 {
+        script.header(&format!("flag bit {bit}"), &[Two(at::FLAGS, 1 << bit)]);
+    }
+    script.header("every flag that is let through", &[Two(at::FLAGS, 0xFFD0)]);
+    script.header("every flag", &[Two(at::FLAGS, 0xFFFF)]);
+    for (major, minor) in [(255, 1), (1, 1), (256, 1), (1, 0), (0, 0), (0, 2), (0, 256), (0, 257)] {
+        let case = if major == 255 { "D.3 " } else { "" };
+        let version = [Two(at::VERSION, major), Two(at::VERSION + 2, minor)];
+        script.header(&format!("{case}version {major}.{minor}"), &version);
+    }
+    single_bytes(script);
+}
+
+fn identifiers(script: &mut Script) {
     for m in [0, 2] {
         for erasure in [0, 1, 2, 3, 0x7F, 0x80, 0x82, 0xFF] {
             let case = match (m, erasure) {
@@ -113,16 +127,10 @@ pub fn identifiers_and_flags(script: &mut Script) {
         let title = format!("{case}compression identifier {compression}");
         script.header(&title, &[Byte(at::COMPRESSION, compression)]);
     }
-    for bit in 0..16 {
-        script.header(&format!("flag bit {bit}"), &[Two(at::FLAGS, 1 << bit)]);
-    }
-    script.header("every flag that is let through", &[Two(at::FLAGS, 0xFFD0)]);
-    script.header("every flag", &[Two(at::FLAGS, 0xFFFF)]);
-    for (major, minor) in [(255, 1), (1, 1), (256, 1), (1, 0), (0, 0), (0, 2), (0, 256), (0, 257)] {
-        let case = if major == 255 { "D.3 " } else { "" };
-        let version = [Two(at::VERSION, major), Two(at::VERSION + 2, minor)];
-        script.header(&format!("{case}version {major}.{minor}"), &version);
-    }
+}
+
+/// Bytes that no other case sets.
+fn single_bytes(script: &mut Script) {
     script.header("D.2 another fourth byte of the magic", &[Byte(3, 1)]);
     script.header("every byte of the content hash set", &(293..325).map(|at| Byte(at, 0xFF)).collect::<Vec<_>>());
     script.header("format 0xFEDC", &[Two(36, 0xFEDC)]);
@@ -202,7 +210,7 @@ pub fn damaged_headers(script: &mut Script) {
     script.frame(HEADER_LENGTHS, 0, 0, 65_536);
 }
 
-/// A header that can break each rule: N = 5, M = 2; behind one index a field of two bytes.
+/// A header that can break each rule: N = 5, M = 2; after one index a field of two bytes.
 pub fn breakable() -> Plan {
     Plan { priorities: vec![0], fields: encoded(&[(0x0030, vec![0, 0])]), flags: 0x80, ..plan(18, 4, 2) }
 }

@@ -16,7 +16,7 @@ fn orders(count: usize) -> Vec<Vec<usize>> {
     orders(count - 1).into_iter().flat_map(with_last).collect()
 }
 
-/// Where each part lies once all are put behind each other.
+/// Where each part lies once all are put one after the other.
 fn joined(start: usize, parts: &[Vec<u8>]) -> Vec<(usize, usize)> {
     let ends = parts.iter().scan(start, |end, part| {
         *end += part.len();
@@ -26,13 +26,13 @@ fn joined(start: usize, parts: &[Vec<u8>]) -> Vec<(usize, usize)> {
 }
 
 /// The chunks of a file that has the same header but for the content's hash, so that each conflicts.
-pub fn others(plan: &Plan) -> Vec<Vec<u8>> {
+pub fn conflicting_chunks(plan: &Plan) -> Vec<Vec<u8>> {
     let content = plan.content.iter().map(|byte| byte ^ 0x5A).collect();
     Plan { content, ..plan.clone() }.chunks()
 }
 
 /// The chunks of a file with another UUID.
-fn foreign(plan: &Plan) -> Vec<Vec<u8>> {
+fn chunks_of_another_file(plan: &Plan) -> Vec<Vec<u8>> {
     Plan { uuid: [0xAA; 16], ..plan.clone() }.chunks()
 }
 
@@ -40,7 +40,7 @@ fn foreign(plan: &Plan) -> Vec<Vec<u8>> {
 pub fn every_order(script: &mut Script) {
     let plan = plan(9, 8, 1);
     let stage = Stage::set(script, &plan);
-    let (chunks, others, foreign) = (plan.chunks(), others(&plan), foreign(&plan));
+    let (chunks, others, foreign) = (plan.chunks(), conflicting_chunks(&plan), chunks_of_another_file(&plan));
     let mut damaged = chunks[2].clone();
     damaged[50] ^= 1;
     let collections = [
@@ -106,8 +106,9 @@ pub fn long_histories(script: &mut Script) {
     script.say("long histories");
     let stage = Stage::set(script, &plan);
     script.frame(SCRATCH, 0, 18, 1024);
-    let (count, others) = (stage.chunks.len(), others(&plan));
-    let chunks = [plan.chunks(), plan.chunks(), others[2..4].to_vec(), foreign(&plan)[..2].to_vec()].concat();
+    let (count, others) = (stage.chunks.len(), conflicting_chunks(&plan));
+    let chunks =
+        [plan.chunks(), plan.chunks(), others[2..4].to_vec(), chunks_of_another_file(&plan)[..2].to_vec()].concat();
     for round in 0..12 {
         let lawful = round % 4 != 3;
         let start = if round < 3 { vec![0; count] } else { marks(&mut chance, count, lawful) };

@@ -1,19 +1,14 @@
 //! Listings: document 01's example, every set of withheld chunks, damage that is stepped over and that ends the reading,
 //! refused headers, the program's limits, and lent memory.
 use super::headers::at;
-use super::{chunks, headers, largest};
+use super::{chunks, headers, load_longest_header};
 use crate::listing::example;
 use crate::probe::*;
 use crate::script::*;
 use crate::writer::Plan;
 
-/// The least output that is taken.
-const OUTPUT: usize = 32_768;
-/// The small number of a frame that gives the file another length.
-const FILE: u8 = 7;
-
 fn list(script: &mut Script) {
-    script.frame(LISTING, 0, OUTPUT, 0);
+    script.frame(LISTING, 0, LEAST_OUTPUT, 0);
 }
 
 fn listed(script: &mut Script, title: &str, file: &[u8]) {
@@ -255,13 +250,13 @@ pub fn longest_files(script: &mut Script) {
     close(script, end, 65_536);
     list(script);
     script.say("the longest header");
-    largest(script);
+    load_longest_header(script);
     list(script);
     for (title, byte) in [("a byte more, or less", 0x53), ("the same with another magic", 0x52)] {
         script.say(title);
         script.edit(&[Byte(0, byte)]);
         for length in [65_535, 65_536, 65_537, 65_538] {
-            script.frame(LISTING, FILE, OUTPUT, length);
+            script.frame(LISTING, OTHER_LENGTH, LEAST_OUTPUT, length);
         }
     }
 }
@@ -272,17 +267,17 @@ pub fn lent_memory(script: &mut Script) {
     script.load(&example());
     for (piece, right) in (1..).zip([32_768, 1_056, 32_768, 1_024, 32_768, 1_024]) {
         for length in [0, right - 1, right + 1, right] {
-            script.frame(LISTING, piece, OUTPUT, length);
-            script.frame(LISTING, piece, OUTPUT - 1, length);
+            script.frame(LISTING, piece, LEAST_OUTPUT, length);
+            script.frame(LISTING, piece, LEAST_OUTPUT - 1, length);
         }
     }
     script.say("outputs of other lengths");
-    for room in [0, 1, OUTPUT - 1, OUTPUT, OUTPUT + 1, 65_536] {
+    for room in [0, 1, LEAST_OUTPUT - 1, LEAST_OUTPUT, LEAST_OUTPUT + 1, 65_536] {
         script.frame(LISTING, 0, room, 0);
     }
     script.say("wrong memory for a file that is refused");
     script.edit(&[Cut(11)]);
     list(script);
-    script.frame(LISTING, 1, OUTPUT, 0);
-    script.frame(LISTING, 0, OUTPUT - 1, 0);
+    script.frame(LISTING, 1, LEAST_OUTPUT, 0);
+    script.frame(LISTING, 0, LEAST_OUTPUT - 1, 0);
 }

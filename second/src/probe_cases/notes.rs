@@ -1,5 +1,5 @@
 //! What sessions know: prefix, missing list and note of marks that were offered or lent, and notes that are read.
-use super::sessions::Stage;
+use super::sessions::{each_head_number, set_head_numbers, Stage, AT_HOUSE_LIMITS};
 use crate::note::note;
 use crate::probe::*;
 use crate::script::*;
@@ -152,36 +152,20 @@ pub fn wrong_memory(script: &mut Script) {
 
 /// 71 of size, N, M and S.
 pub fn wrong_numbers(script: &mut Script) {
-    const NAMES: [&str; 4] = ["size", "N", "M", "S"];
     let most = MOST as usize;
-    let numbers = [
-        (5, vec![0, 4, 5, 6, 7, most]),
-        (3, vec![0, 2, 3, 4, 1025, 65_535, most]),
-        (2, vec![0, 1, 2, 3, 33, 65_534, most]),
-        (2, vec![0, 1, 2, 3, 4, 4098, 268_435_456, most]),
-    ];
     script.say("each number by itself at and around its bounds; right are size 5, N = 3, M = 2, S = 2");
     lend(script, 5, 2, &[1, 0, 1, 0, 2]);
-    for (which, (right, values)) in numbers.into_iter().enumerate() {
-        for value in values {
-            script.say(&format!("{} {value}", NAMES[which]));
-            script.frame(SET_HEAD, which as u8, value, 0);
-            call_all(script, 2, 1, 31);
-        }
-        script.frame(SET_HEAD, which as u8, right, 0);
-    }
+    each_head_number(script, |script| call_all(script, 2, 1, 31));
     for (low, high) in [(5, 1), (5, 1 << 31), (0, 256), (1, 256), (most, 255), (most, most)] {
         script.say(&format!("size {}", (high as u64) << 32 | low as u64));
         script.frame(SET_HEAD, 0, low, high);
         call_all(script, 2, 1, 31);
     }
-    for (size, n, m, s) in [(2050, 1025, 0, 2), (2, 1, 33, 2), (4098, 1, 0, 4098), (4096, 1, 0, 4096), (2, 1, 32, 2)] {
+    for (size, n, m, s) in AT_HOUSE_LIMITS {
         script.say(&format!(
             "at and above the house limits: size {size}, N = {n}, M = {m}, S = {s}, with memory to match"
         ));
-        for (which, value) in [size, n, m, s].into_iter().enumerate() {
-            script.frame(SET_HEAD, which as u8, value, 0);
-        }
+        set_head_numbers(script, [size, n, m, s]);
         script.load(&vec![0; n + m + (n + m) * s]);
         script.frame(LEND, 0, (n + m) * s, n + m);
         call_all(script, 2, 1, 31);
@@ -267,20 +251,30 @@ pub fn ranges_of_notes(script: &mut Script) {
     }
 }
 
-/// Length, version and range count.
 pub fn starts_of_notes(script: &mut Script) {
     let none = note(&UUID, &[]);
     let one = note(&UUID, &[(1, 2)]);
     read(script, "no byte", &[], &[4]);
     read(script, "zeros", &[0; 23], &[4]);
     read(script, "another UUID", &note(&[0xFF; 16], &[(1, 2)]), &[2]);
+    wrong_starts(script, &none, &one);
+    read(script, "a byte behind", &[&one[..], &[0]].concat(), &[2]);
+    read(script, "a pair behind", &[&one[..], &[0, 0, 0, 9, 0, 0, 0, 9]].concat(), &[4]);
+    read(script, "a note behind a note", &[&none[..], &none].concat(), &[4]);
+    let mut little = one.clone();
+    little[..4].reverse();
+    read(script, "the length little-endian", &little, &[2]);
+}
+
+/// Length, version and range count, of a note of no range and of one.
+fn wrong_starts(script: &mut Script, none: &[u8], one: &[u8]) {
     for version in [0, 2, 255] {
         script.say(&format!("version {version}, with and without room"));
-        script.load(&one);
+        script.load(one);
         script.edit(&[Byte(4, version)]);
         call(script, READ_NOTE, &[2, 0]);
     }
-    let wrong = [("one range", &one, [19, 26, 28, 31, 35]), ("no range", &none, [0, 18, 20, 23, 27])];
+    let wrong = [("one range", one, [19, 26, 28, 31, 35]), ("no range", none, [0, 18, 20, 23, 27])];
     for (title, bytes, lengths) in wrong {
         for length in lengths {
             script.say(&format!("length {length} before {title}"));
@@ -291,20 +285,14 @@ pub fn starts_of_notes(script: &mut Script) {
     }
     for (high, low) in [(0, 0), (0, 2), (1, 0), (1, 1), (255, 255)] {
         script.say(&format!("range count {high:02X} {low:02X} before one range"));
-        script.load(&one);
+        script.load(one);
         script.edit(&[Byte(21, high), Byte(22, low)]);
         call(script, READ_NOTE, &[2]);
     }
     script.say("length and count agree, and the bytes do not");
     for (length, count) in [(19, 0), (35, 2)] {
-        script.load(&one);
+        script.load(one);
         script.edit(&[Byte(3, length), Byte(22, count)]);
         call(script, READ_NOTE, &[4]);
     }
-    read(script, "a byte behind", &[&one[..], &[0]].concat(), &[2]);
-    read(script, "a pair behind", &[&one[..], &[0, 0, 0, 9, 0, 0, 0, 9]].concat(), &[4]);
-    read(script, "a note behind a note", &[&none[..], &none].concat(), &[4]);
-    let mut little = one.clone();
-    little[..4].reverse();
-    read(script, "the length little-endian", &little, &[2]);
 }

@@ -56,6 +56,36 @@ pub fn show(script: &mut Script) {
     script.frame(SHOW, 0, 0, 0);
 }
 
+/// Size, N, M and S of the head at hand, which are 5, 3, 2 and 2, each by itself at its bounds and around them.
+pub fn each_head_number(script: &mut Script, ask: impl Fn(&mut Script)) {
+    let most = u32::MAX as usize;
+    let numbers = [
+        ("size", 5, vec![0, 4, 5, 6, 7, most]),
+        ("N", 3, vec![0, 2, 3, 4, 1025, 65_535, most]),
+        ("M", 2, vec![0, 1, 2, 3, 33, 65_534, most]),
+        ("S", 2, vec![0, 1, 2, 3, 4, 4098, 268_435_456, most]),
+    ];
+    for (which, (name, right, values)) in (0..).zip(numbers) {
+        for value in values {
+            script.say(&format!("{name} {value}"));
+            script.frame(SET_HEAD, which, value, 0);
+            ask(script);
+        }
+        script.frame(SET_HEAD, which, right, 0);
+    }
+}
+
+/// Size, N, M and S at the house limits and above them.
+pub const AT_HOUSE_LIMITS: [(usize, usize, usize, usize); 5] =
+    [(2050, 1025, 0, 2), (2, 1, 33, 2), (4098, 1, 0, 4098), (4096, 1, 0, 4096), (2, 1, 32, 2)];
+
+/// Sets size, N, M and S of the head at hand.
+pub fn set_head_numbers(script: &mut Script, numbers: [usize; 4]) {
+    for (which, value) in (0..).zip(numbers) {
+        script.frame(SET_HEAD, which, value, 0);
+    }
+}
+
 pub fn offers_and_copies(script: &mut Script) {
     let stage = Stage::set(script, &plan(14, 4, 1));
     stage.begin(script, "D.6 each chunk, and each again");

@@ -7,7 +7,7 @@ use crate::script::*;
 use crate::writer::{encoded, Plan};
 
 /// Where the inputs of the frame WRITE have their numbers.
-mod of {
+mod input {
     pub const S: usize = 0;
     pub const M: usize = 4;
     pub const FORMAT: usize = 32;
@@ -104,15 +104,15 @@ pub fn numbers(script: &mut Script) {
     let most = u32::MAX as usize;
     load(script, "size 14, S = 4, M = 1", &plan(14, 4, 1));
     for s in [0, 1, 2, 3, 4, 5, 4096, 4097, 4098, 65_536, 268_435_456, 268_435_458, most] {
-        changed(script, &format!("S {s}"), &[Four(of::S, s)]);
+        changed(script, &format!("S {s}"), &[Four(input::S, s)]);
     }
     for m in [0, 1, 32, 33, 65_531, 65_532, 65_534, 65_535, most] {
-        changed(script, &format!("M {m}"), &[Four(of::M, m)]);
+        changed(script, &format!("M {m}"), &[Four(input::M, m)]);
     }
     for bit in 0..16 {
-        changed(script, &format!("flag bit {bit}"), &[Two(of::FLAGS, 1 << bit)]);
+        changed(script, &format!("flag bit {bit}"), &[Two(input::FLAGS, 1 << bit)]);
     }
-    changed(script, "format 65,535", &[Two(of::FORMAT, 65_535)]);
+    changed(script, "format 65,535", &[Two(input::FORMAT, 65_535)]);
     for (size, s) in [(2047, 2), (2048, 2), (2049, 2)] {
         judged(script, &format!("size {size} in blocks of {s}, with no room"), &plan(size, s, 0));
     }
@@ -133,10 +133,10 @@ pub fn names(script: &mut Script) {
     }
     load(script, "a name of eight bytes", &plan(3, 2, 0));
     for place in [0, 3, 7] {
-        changed(script, &format!("a zero at its byte {place}"), &[Byte(of::NAME + place, 0)]);
+        changed(script, &format!("a zero at its byte {place}"), &[Byte(input::NAME + place, 0)]);
     }
-    changed(script, "a zero behind it", &[Two(of::NAME_LENGTH, 7), Byte(of::NAME + 7, 0)]);
-    changed(script, "every byte set", &(0..8).map(|i| Byte(of::NAME + i, 0xFF)).collect::<Vec<_>>());
+    changed(script, "a zero behind it", &[Two(input::NAME_LENGTH, 7), Byte(input::NAME + 7, 0)]);
+    changed(script, "every byte set", &(0..8).map(|i| Byte(input::NAME + i, 0xFF)).collect::<Vec<_>>());
 }
 
 pub fn lists(script: &mut Script) {
@@ -163,8 +163,8 @@ pub fn lists(script: &mut Script) {
         &Plan { priorities: [rising(1023), vec![0]].concat(), ..plan(2048, 2, 0) },
     );
     load(script, "a list that takes all of the content", &Plan { priorities: vec![0], ..plan(8, 4, 0) });
-    changed(script, "three indices", &[Two(of::LIST_LENGTH, 3)]);
-    changed(script, "more than there is", &[Two(of::LIST_LENGTH, 65_535)]);
+    changed(script, "three indices", &[Two(input::LIST_LENGTH, 3)]);
+    changed(script, "more than there is", &[Two(input::LIST_LENGTH, 65_535)]);
 }
 
 pub fn fields(script: &mut Script) {
@@ -207,14 +207,14 @@ pub fn fields(script: &mut Script) {
     longest(script);
 }
 
-/// Fields that are made of zeros behind the inputs' numbers and name: tags rising from a first, and their lengths.
+/// Fields that are made of zeros after the inputs' numbers and name: tags rising from a first, and their lengths.
 fn grown(script: &mut Script, title: &str, first: usize, lengths: &[usize]) {
     let start = inputs(&Plan { name: vec![], ..plan(0, 4, 0) });
     let total: usize = lengths.iter().map(|length| 6 + length).sum();
     script.say(title);
     script.load(&start);
     script.frame(GROW, 0, total, 0);
-    script.edit(&[Four(of::FIELDS_LENGTH, total)]);
+    script.edit(&[Four(input::FIELDS_LENGTH, total)]);
     let mut at = start.len();
     for (tag, length) in (first..).zip(lengths) {
         script.edit(&[Two(at, tag), Four(at + 2, *length)]);
@@ -232,6 +232,6 @@ fn longest(script: &mut Script) {
         grown(script, &format!("H {}", 331 + 3 * 16_390 + 6 + last), 0x0200, &[16_384, 16_384, 16_384, last]);
     }
     script.frame(RESTORE, 0, 0, 0);
-    script.edit(&[Four(of::FIELDS_LENGTH, u32::MAX as usize)]);
+    script.edit(&[Four(input::FIELDS_LENGTH, u32::MAX as usize)]);
     write(script, ROOM);
 }
