@@ -13,10 +13,11 @@ pub use answer::reason::Checked;
 pub use answer::reason::Reason;
 pub use answer::reason::number_of;
 pub use answer::written::Written;
-// The bytes of a container: a header, the place of one of its extension fields, a chunk by itself.
+// The bytes of a container: a header, the place of one of its extension fields, a chunk by itself and how long one is.
 pub use format::chunk::ChunkChecked;
+pub use format::chunk::ChunkMeasured;
 pub use format::chunk::check_chunk;
-pub use format::chunk::front_length;
+pub use format::chunk::measure_chunk;
 pub use format::header::Head;
 pub use format::header::HeaderRead;
 pub use format::header::read_header;
@@ -34,8 +35,9 @@ pub use note::missing::list_missing;
 pub use note::resend::NoteRead;
 pub use note::resend::read_note;
 pub use note::resend::write_note;
-// A session: a chunk is offered, and counted.
-pub use session::marks::held_count;
+// A session: a chunk is offered and counted, and what is held and barred.
+pub use session::marks::MarksCounted;
+pub use session::marks::count_marks;
 pub use session::offer::OfferAnswer;
 pub use session::offer::Verdict;
 pub use session::offer::offer;

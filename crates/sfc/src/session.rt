@@ -1,4 +1,5 @@
 // A session: lent store and marks, tallies, and the offer of a chunk.
+pub mod lent;
 pub mod marks;
 pub mod offer;
 pub mod tallies;

@@ -10,8 +10,9 @@ use Rattle.little.proofs.TestLaws.{or-false}
 use Rattle.little.specs.Runs.{zeros}
 use Rattle.sfc.specs.answer.Numbers.{Check, checked, verdict, reasonOf, numberOf}
 use Rattle.sfc.specs.format.Header.{regionOf, headOf, headerChecks}
-use Rattle.sfc.specs.session.Marks.{heldCount, marksWrong}
-use Rattle.sfc.specs.session.Session.{Session, lentWrong, sessionWrong}
+use Rattle.sfc.specs.session.Marks.{heldCount}
+use Rattle.sfc.specs.session.Lent.{marksWrong, lentWrong}
+use Rattle.sfc.specs.session.Session.{Session, sessionWrong}
 use Rattle.sfc.specs.note.Missing.{Range, missing, ranges}
 use Rattle.sfc.specs.give.HandOut.{contentChecks}
 use Rattle.sfc_listing.specs.Text.{text, digits, decimal, hex, line}

@@ -16,12 +16,14 @@ use Rattle.little.proofs.PartLaws.{length-part, part-part, block-inside}
 use Rattle.little.specs.Runs.{any, zeros, among}
 use Rattle.sfc.specs.answer.Numbers.{verdict, passes, numberOf}
 use Rattle.sfc.specs.format.Header.{lengthField, acceptedHeader}
-use Rattle.sfc.specs.format.Chunk.{chunkLength, lengthChecks, place}
+use Rattle.sfc.specs.format.Chunk.{chunkLength, lengthChecks}
+use Rattle.sfc.specs.answer.Places.{place}
 use Rattle.sfc.specs.session.Marks.{isHeld, heldCount}
 use Rattle.sfc.specs.session.Session.{Session, blank}
 use Rattle.sfc.specs.session.History.{afterAll}
 use Rattle.sfc.specs.note.Missing.{missing, ranges}
-use Rattle.sfc.specs.give.HandOut.{Lent, contentChecks, handOutChecks, handOut}
+use Rattle.sfc.specs.give.HandOut.{contentChecks, handOutChecks, handOut}
+use Rattle.sfc.specs.session.Lent.{Lent}
 use Rattle.sfc.specs.writing.Writer.{Input, size, blocks, body, payload, chunk, fileOf, headFor}
 use Rattle.sfc.specs.demand.Demand2.{AllBelow, different, received, Lawful, RoomFor}
 use Rattle.sfc_listing.specs.Text.{text, line}

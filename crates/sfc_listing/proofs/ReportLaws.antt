@@ -15,13 +15,14 @@ use Rattle.little.specs.Parts.{put}
 use Rattle.little.proofs.TestLaws.{or-false}
 use Rattle.little.specs.Runs.{zeros}
 use Rattle.sfc.specs.answer.Numbers.{Answered, checked, verdict, numberOf}
-use Rattle.sfc.specs.session.Marks.{heldCount, marksWrong}
-use Rattle.sfc.specs.format.Chunk.{place}
-use Rattle.sfc.specs.session.Session.{Session, lentWrong}
+use Rattle.sfc.specs.session.Marks.{heldCount}
+use Rattle.sfc.specs.session.Lent.{marksWrong, lentWrong, Lent, rebuildWrong}
+use Rattle.sfc.specs.answer.Places.{place}
+use Rattle.sfc.specs.session.Session.{Session}
 use Rattle.sfc.specs.note.Missing.{Range, missing, ranges}
 use Rattle.sfc.specs.note.Note.{noteOf, writeNote, bounds, readNote}
 use Rattle.sfc.specs.note.NoteTheorems.{Sayable}
-use Rattle.sfc.specs.give.HandOut.{Lent, Rebuilding, rebuildWrong, contentChecks, handOut}
+use Rattle.sfc.specs.give.HandOut.{Rebuilding, contentChecks, handOut}
 use Rattle.sfc_listing.specs.Text.{text, line}
 use Rattle.sfc_listing.specs.Listing.{Desk, barredCount, lastWord, startText, sessionText}
 use Rattle.sfc_listing.specs.Lines.{wordOf, boundsLines}

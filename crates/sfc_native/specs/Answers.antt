@@ -3,7 +3,8 @@ use Prim.Native.Nat.{ℕ}
 use mathlib.Core.List.{List}
 use Rattle.sfc.specs.answer.Numbers.{numberOf, Answered}
 use Rattle.sfc.specs.format.Header.{readHeader}
-use Rattle.sfc.specs.give.HandOut.{Lent, Rebuilding, handOut}
+use Rattle.sfc.specs.give.HandOut.{Rebuilding, handOut}
+use Rattle.sfc.specs.session.Lent.{Lent}
 use Rattle.sfc.specs.declared.format.header.Head.{Head}
 use Rattle.sfc.specs.declared.answer.reason.Checked.{Checked}
 use Rattle.sfc.specs.declared.answer.reason.Checked.the-variants.{Good, Refused}

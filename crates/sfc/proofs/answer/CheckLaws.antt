@@ -2,10 +2,10 @@
 -- answer tells of them. Assumes nothing.
 use Prim.Native.Nat.{ℕ}
 use mathlib.Core.Path.{_≡_, refl, sym, ap, _∙_}
-use mathlib.Core.Bool.{true, false, true≢false, false≢true}
+use mathlib.Core.Bool.{Bool, true, false, cond, true≢false, false≢true}
 use mathlib.Core.List.{List, [], _∷_, _++_}
 use native.Mathlib.Omega.{arith}
-use Rattle.sfc.specs.answer.Numbers.{Check, checked, verdict, passes, reasonOf}
+use Rattle.sfc.specs.answer.Numbers.{Check, checked, verdict, thenCheck, passes, reasonOf}
 use Rattle.sfc.specs.declared.answer.reason.Reason.{Reason}
 use Rattle.sfc.specs.declared.answer.reason.Checked.{Checked}
 use Rattle.sfc.specs.declared.answer.reason.Checked.the-variants.{Good, Refused}
@@ -15,6 +15,24 @@ refused-not-good r e = absurd (let z : _≡_ {A = ℕ} 0 1 = cc in omega arith)
 
 refused-one : (r s : Reason) → _≡_ {A = Checked} (Refused r) (Refused s) → r ≡ s
 refused-one r s e = cc
+
+-- ---- one check more, as the code tries them: a rule for each form of what came before
+
+pub then-good : (test : Bool) (why : Reason) → thenCheck Good test why ≡ cond test (Refused why) Good
+unfolding thenCheck
+then-good test why = refl
+
+pub then-refused : (r : Reason) (test : Bool) (why : Reason) → thenCheck (Refused r) test why ≡ Refused r
+unfolding thenCheck
+then-refused r test why = refl
+
+pub then-cond : (t : Bool) (r : Reason) (v : Checked) (test : Bool) (why : Reason)
+    → thenCheck (cond t (Refused r) v) test why ≡ cond t (Refused r) (thenCheck v test why)
+unfolding thenCheck
+then-cond true r v test why = refl
+then-cond false r v test why = refl
+
+pub ruleset Then·simp = (then-good, then-refused, then-cond)
 
 module _ {A : Type 0} (refuse : Reason → A) where
   -- a good part is passed over

@@ -12,11 +12,13 @@ use Rattle.little.proofs.TestLaws.{or-false}
 use Rattle.little.specs.Runs.{any, zeros, among}
 use Rattle.sfc.specs.answer.Numbers.{Check, checked, verdict, passes, numberOf}
 use Rattle.sfc.specs.format.Header.{headerChecks, regionOf, headOf, refusedHeader, acceptedHeader, readHeader}
-use Rattle.sfc.specs.format.Chunk.{indexOf, number, place, aloneChecks, checkChunk}
+use Rattle.sfc.specs.format.Chunk.{indexOf, aloneChecks, checkChunk}
+use Rattle.sfc.specs.answer.Places.{number, place}
 use Rattle.sfc.specs.session.Marks.{isHeld, heldCount}
 use Rattle.sfc.specs.session.Tallies.{counted, countedRefusal}
-use Rattle.sfc.specs.session.Session.{Session, mark, lentWrong, offerChecks, welcomed, verdictOf, withBlock, settled, after}
-use Rattle.sfc.specs.give.HandOut.{Lent, rebuildWrong, lentAfter, contentOf, handOutLent, contentChecks, handOutChecks, handOut}
+use Rattle.sfc.specs.session.Session.{Session, mark, offerChecks, welcomed, verdictOf, withBlock, settled, after}
+use Rattle.sfc.specs.session.Lent.{lentWrong, Lent, rebuildWrong}
+use Rattle.sfc.specs.give.HandOut.{lentAfter, contentOf, handOutLent, contentChecks, handOutChecks, handOut}
 use Rattle.sfc.specs.give.Block.{blockGiven, blockLent, blockChecks, blockRequest}
 use Rattle.sfc.specs.give.Prefix.{prefixBlocks, prefixOf, prefixChecks, prefixGiven}
 use Rattle.sfc.specs.note.Missing.{missing, missingChecks, listMissing}

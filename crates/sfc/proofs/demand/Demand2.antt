@@ -13,10 +13,12 @@ use Rattle.little.proofs.PartLaws.{part-append-left, part-append-right, block-i
 use Rattle.cauchy.specs.Code.{joined}
 use Rattle.sfc.specs.answer.Numbers.{Answered}
 use Rattle.little.specs.Runs.{any, risingFrom}
-use Rattle.sfc.specs.format.Limits.{wantedBlocks, shapeWrong}
+use Rattle.sfc.specs.format.Limits.{wantedBlocks}
+use Rattle.sfc.specs.session.Lent.{shapeWrong}
 use Rattle.sfc.specs.format.Extension.{fieldsIn, leftIn, extensionWrong}
 use Rattle.sfc.specs.format.Header.{flagsBarred, distinctBelow, acceptedHeader, readHeader}
-use Rattle.sfc.specs.format.Chunk.{indexOf, payloadOf, chunkChecks, number, place, aloneChecks, checkChunk}
+use Rattle.sfc.specs.format.Chunk.{indexOf, payloadOf, chunkChecks, aloneChecks, checkChunk}
+use Rattle.sfc.specs.answer.Places.{number, place}
 use Rattle.sfc.specs.writing.Writer.{Input, blocks, body, region, preamble, trailer, payload, chunk, fileOf, nameWrong, hasReserved, writeFile, headFor}
 use Rattle.sfc.specs.demand.Demand2.{Lawful, plain, Demand2}
 use Rattle.sfc.specs.declared.format.chunk.ChunkChecked.the-variants.{Whole, Refused}

@@ -14,8 +14,9 @@ use Rattle.cauchy.specs.Theorems.{Shape}
 use Rattle.cauchy.proofs.UsedLaws.{as-decoded}
 use Rattle.cauchy.proofs.Theorems.{theorems}
 use Rattle.sfc.specs.answer.Numbers.{Answered}
-use Rattle.sfc.specs.session.Marks.{isHeld, marksWrong}
-use Rattle.sfc.specs.session.Session.{Session, lentWrong}
+use Rattle.sfc.specs.session.Marks.{isHeld}
+use Rattle.sfc.specs.session.Lent.{marksWrong, lentWrong}
+use Rattle.sfc.specs.session.Session.{Session}
 use Rattle.sfc.specs.note.Missing.{missing, listMissing}
 use Rattle.little.specs.Runs.{among}
 use Rattle.sfc.specs.demand.Demand3.{Right, heldIn, Fitting, Gives, Withholds, HandsOut, Open, Free, Used, Demand3}

@@ -17,15 +17,16 @@ use Rattle.blake3.specs.Tree.{hash}
 use Rattle.cauchy.specs.Code.{joined, recoveryWord, recoveryBlock, codeBlock}
 use Rattle.little.specs.Runs.{any, zeros, same, among}
 use Rattle.sfc.specs.answer.Numbers.{verdict}
-use Rattle.sfc.specs.format.Limits.{shapeWrong}
+use Rattle.sfc.specs.session.Lent.{shapeWrong, Lent, rebuildWrong}
 use Rattle.sfc.specs.session.Marks.{isHeld, heldCount}
-use Rattle.sfc.specs.format.Chunk.{indexOf, payloadOf, chunkChecks, number, place}
+use Rattle.sfc.specs.format.Chunk.{indexOf, payloadOf, chunkChecks}
+use Rattle.sfc.specs.answer.Places.{number, place}
 use Rattle.sfc.specs.session.Tallies.{sum, total, tallyFull}
 use Rattle.sfc.specs.session.Session.{Session, blank, mark, blockOf, verdictOf, after}
 use Rattle.sfc.specs.inner.Steps.{Welcome}
 use Rattle.sfc.specs.session.History.{afterAll, verdicts}
 use Rattle.sfc.specs.session.SessionTheorems.{ChangesOne}
-use Rattle.sfc.specs.give.HandOut.{Lent, Rebuilding, rebuildWrong, lentAfter, handOut}
+use Rattle.sfc.specs.give.HandOut.{Rebuilding, lentAfter, handOut}
 use Rattle.sfc.specs.writing.Writer.{Input, size, blocks, dataOf, payload, chunk, headFor}
 use Rattle.sfc.specs.demand.Demand2.{AllBelow, different, received, answers, RoomFor}
 use Rattle.sfc.specs.demand.Demand3.{Right, Fitting}

@@ -17,9 +17,11 @@ use Rattle.blake3.specs.Tree.{hash}
 use Rattle.sfc.specs.format.Bytes.{standsAt}
 use Rattle.little.specs.Runs.{zeros}
 use Rattle.sfc.specs.answer.Numbers.{Check, checked, verdict}
-use Rattle.sfc.specs.format.Limits.{lengthWrong, shapeWrong}
+use Rattle.sfc.specs.format.Limits.{lengthWrong}
+use Rattle.sfc.specs.session.Lent.{shapeWrong}
 use Rattle.sfc.specs.format.Header.{magic, lengthField, regionOf, trailerOf, headOf, regionChecks, trailerChecks, headerChecks, refusedHeader, acceptedHeader, readHeader}
-use Rattle.sfc.specs.format.Chunk.{chunkMagic, endMarker, indexOf, typeOf, payloadLength, payloadOf, chunkLength, chunkChecks, number, place, checkChunk}
+use Rattle.sfc.specs.format.Chunk.{chunkMagic, endMarker, indexOf, typeOf, payloadLength, payloadOf, chunkLength, chunkChecks, checkChunk}
+use Rattle.sfc.specs.answer.Places.{number, place}
 use Rattle.sfc.specs.session.Tallies.{tallyFull}
 use Rattle.sfc.specs.session.Session.{Session, sessionWrong, markChecks, welcomed, verdictOf, settled, after, offered}
 use Rattle.sfc.specs.demand.Unread.{Unread}

@@ -6,8 +6,9 @@ use native.Mathlib.Omega.{arith}
 use lib.Arith.{digits-div}
 use Rattle.gf16.proofs.Laws as gf16
 use Rattle.cauchy.proofs.Worked as cauchy
-use Rattle.sfc.specs.format.Limits.{wantedBlocks, unlawful, aboveHouse, shapeWrong}
-use Rattle.sfc.specs.session.Marks.{heldCount, marksFit, marksWrong}
+use Rattle.sfc.specs.format.Limits.{wantedBlocks, unlawful, aboveHouse}
+use Rattle.sfc.specs.session.Lent.{shapeWrong, marksWrong}
+use Rattle.sfc.specs.session.Marks.{heldCount, marksKnown}
 use Rattle.sfc.specs.note.Missing.{unheldFrom, missing, putBefore, ranges, apartFrom}
 use Rattle.sfc.specs.note.Note.{be, bigBytes, pairsBytes, noteOf, writeNote, pairsFrom, malformed, bounds, readNote}
 use Rattle.sfc.specs.demand.Worked.{Worked}
@@ -25,7 +26,7 @@ c8 s h = (
 )
 
 pub worked : Worked
-unfolding wantedBlocks unlawful aboveHouse shapeWrong heldCount marksFit unheldFrom missing putBefore ranges apartFrom marksWrong be bigBytes pairsBytes noteOf writeNote pairsFrom malformed bounds readNote
+unfolding wantedBlocks unlawful aboveHouse shapeWrong heldCount marksKnown unheldFrom missing putBefore ranges apartFrom marksWrong be bigBytes pairsBytes noteOf writeNote pairsFrom malformed bounds readNote
 worked = record {
   c1 = gf16.worked .c1;
   c2 = gf16.worked .c2;

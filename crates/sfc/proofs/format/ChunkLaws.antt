@@ -1,17 +1,26 @@
 -- What the proofs of the chunk's functions and of the walk over chunks cite. Assumes nothing.
 use Prim.Native.Nat.{ℕ, _+_, _≤_}
-use mathlib.Core.Path.{_≡_, refl, sym, _∙_}
-use mathlib.Core.Bool.{Bool, true, false}
+use mathlib.Core.Path.{_≡_, refl, sym, ap, _∙_}
+use mathlib.Core.Bool.{true, false}
 use mathlib.Core.List.{List}
 use native.Mathlib.Omega.{arith}
 use borrow.Author.Tests.{ltb-false}
 use lib.ListN.{length}
 use Rattle.sfc.specs.answer.Numbers.{verdict, passes}
-use Rattle.sfc.specs.format.Chunk.{payloadLength, chunkLength, lengthChecks, frontLength}
+use Rattle.sfc.specs.format.Chunk.{payloadLength, chunkLength, lengthChecks, measureChecks, measureChunk}
+use Rattle.sfc.specs.session.Lent.{shapeWrong}
+use Rattle.sfc.specs.declared.format.header.Head.{Head}
+use Rattle.sfc.specs.declared.format.chunk.ChunkMeasured.{ChunkMeasured}
+use Rattle.sfc.specs.declared.format.chunk.ChunkMeasured.the-variants.{Length, Refused as NotMeasured}
 use Rattle.sfc.specs.declared.answer.reason.Reason.{Reason}
 use Rattle.sfc.specs.declared.answer.reason.Checked.{Checked}
 use Rattle.sfc.specs.declared.answer.reason.Checked.the-variants.{Good, Refused}
-use Rattle.sfc.proofs.answer.CheckLaws.{passed, passes-good, good-passes, wrong-fails}
+use Rattle.sfc.proofs.answer.CheckLaws.{passed, all-passed, good-all, good-passes, wrong-fails, tells}
+
+-- the verdict that an answer shows
+abbrev pub measuredSeen : ChunkMeasured → Checked
+measuredSeen (Length k) = Good
+measuredSeen (NotMeasured r) = Refused r
 
 -- a chunk that passed the checks of its length is all there
 pub chunk-there : (s : ℕ) (c : List ℕ) (v : Checked) → v ≡ verdict (lengthChecks s c) → v ≡ Good → 84 + payloadLength c ≤ length c
@@ -21,35 +30,24 @@ chunk-there s c v e f =
 
 -- ---- where the chunk at the front ends
 
-pub front-refused : (s : ℕ) (b : List ℕ) (r : Reason) → verdict (lengthChecks s b) ≡ Refused r → 0 ≡ frontLength s b
-unfolding frontLength
-front-refused s b r e = rw (wrong-fails (lengthChecks s b) r e)
+module _ (h : Head) (b : List ℕ) where
+  -- a length is told only of a chunk that is all there
+  pub measured : (k : ℕ) → measureChunk h b ≡ Length k → (k ≡ chunkLength b) × (chunkLength b ≤ length b) × (passes (lengthChecks (h .s) b) ≡ true)
+  unfolding measureChunk
+  measured k e =
+      let t = tells measuredSeen NotMeasured (Length (chunkLength b)) (λ q. refl) refl (measureChecks h b) Good (ap measuredSeen e) in
+      let f : _≡_ {A = ChunkMeasured} (Length (chunkLength b)) (Length k) = sym (good-all NotMeasured (measureChecks h b) (Length (chunkLength b)) t) ∙ e in
+      let p = passed (measureChecks h b) t in
+      let g : verdict (lengthChecks (h .s) b) ≡ Good = all-passed (lengthChecks (h .s) b) (p .1) in
+      let q : chunkLength b ≡ k = cc in (
+        sym q,
+        chunk-there (h .s) b Good (sym g) refl,
+        good-passes (lengthChecks (h .s) b) g,
+      )
 
-pub front-good : (s : ℕ) (b : List ℕ) → verdict (lengthChecks s b) ≡ Good → chunkLength b ≡ frontLength s b
-unfolding frontLength
-front-good s b e = rw (good-passes (lengthChecks s b) e)
-
--- what its length tells: that it is all there, or that there is none
-pub record Front (s : ℕ) (b : List ℕ) : Type 0 where
-  pub there : passes (lengthChecks s b) ≡ true
-  pub ends : frontLength s b ≡ chunkLength b
-  pub inside : chunkLength b ≤ length b
-
-pub front-some : (s : ℕ) (b : List ℕ) → (frontLength s b ≡ 0 → ⊥) → Front s b
-unfolding frontLength
-front-some s b n = go (passes (lengthChecks s b)) refl
-  where
-    go : (t : Bool) → passes (lengthChecks s b) ≡ t → Front s b
-    go true e = record {
-      there = e;
-      ends = rw e;
-      inside = chunk-there s b Good (sym (passes-good (lengthChecks s b) e)) refl;
-    }
-    go false e = absurd (n (rw e))
-
-pub front-none : (s : ℕ) (b : List ℕ) → frontLength s b ≡ 0 → passes (lengthChecks s b) ≡ false
-front-none s b n = go (passes (lengthChecks s b)) refl
-  where
-    go : (t : Bool) → passes (lengthChecks s b) ≡ t → passes (lengthChecks s b) ≡ false
-    go true e = let f = front-good s b (passes-good (lengthChecks s b) e) in absurd (omega arith)
-    go false e = e
+  -- and where none is, of a head within the limits, 30, 31 or 32 says so
+  pub unmeasured : (r : Reason) → shapeWrong (h .size) (h .n) (h .m) (h .s) ≡ false → measureChunk h b ≡ NotMeasured r → passes (lengthChecks (h .s) b) ≡ false
+  unfolding measureChunk
+  unmeasured r w e =
+      let t : verdict (measureChecks h b) ≡ Refused r = tells measuredSeen NotMeasured (Length (chunkLength b)) (λ q. refl) refl (measureChecks h b) (Refused r) (ap measuredSeen e) in
+      wrong-fails (lengthChecks (h .s) b) r (rw w at t)

@@ -12,7 +12,7 @@ use Rattle.little.proofs.TestLaws.{and-both}
 use Rattle.sfc.specs.format.Limits.{lengthWrong}
 use Rattle.sfc.specs.format.Extension.{wholeField}
 use Rattle.sfc.specs.format.Header.{lengthField, regionOf}
-use Rattle.sfc.specs.format.Chunk.{place}
+use Rattle.sfc.specs.answer.Places.{place}
 use Rattle.sfc.specs.format.Lookup.{foundIn, extensionOf, extensionPlace, findField}
 use Rattle.sfc.specs.declared.answer.places.BytePlace.{BytePlace}
 use Rattle.sfc.specs.declared.format.lookup.FieldFound.the-variants.{At, Nothing}

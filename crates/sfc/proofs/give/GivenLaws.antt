@@ -16,10 +16,11 @@ use Rattle.cauchy.specs.Code.{Held}
 use Rattle.cauchy.specs.Decode.{decoded}
 use Rattle.little.specs.Runs.{same}
 use Rattle.sfc.specs.answer.Numbers.{Check, reasonOf}
-use Rattle.sfc.specs.format.Chunk.{place}
+use Rattle.sfc.specs.answer.Places.{place}
 use Rattle.sfc.specs.session.Marks.{isHeld, heldCount}
-use Rattle.sfc.specs.session.Session.{Session, blockOf, lentWrong}
-use Rattle.sfc.specs.give.HandOut.{Lent, Rebuilding, rebuildWrong, lentAfter, contentOf, handOutChecks, handOut}
+use Rattle.sfc.specs.session.Session.{Session, blockOf}
+use Rattle.sfc.specs.session.Lent.{lentWrong, Lent, rebuildWrong}
+use Rattle.sfc.specs.give.HandOut.{Rebuilding, lentAfter, contentOf, handOutChecks, handOut}
 use Rattle.sfc.specs.give.Block.{blockGiven, blockRequest}
 use Rattle.sfc.specs.demand.Demand3.{Gives, Withholds, HandsOut}
 use Rattle.sfc.specs.declared.format.header.Head.{Head}

@@ -22,9 +22,9 @@ use Rattle.cauchy.proofs.Known.{length-held, length-missing}
 use Rattle.little.specs.Runs.{zeros, same}
 use Rattle.sfc.specs.session.Marks.{isHeld, heldCount}
 use Rattle.sfc.specs.answer.Numbers.{Answered}
-use Rattle.sfc.specs.format.Chunk.{number, place}
-use Rattle.sfc.specs.session.Session.{lentWrong}
-use Rattle.sfc.specs.give.HandOut.{Lent, Rebuilding, rebuildWrong, lentAfter, contentOf, contentGiven, handOut}
+use Rattle.sfc.specs.answer.Places.{number, place}
+use Rattle.sfc.specs.session.Lent.{lentWrong, Lent, rebuildWrong}
+use Rattle.sfc.specs.give.HandOut.{Rebuilding, lentAfter, contentOf, contentGiven, handOut}
 use Rattle.sfc.specs.give.Block.{blockRequest}
 use Rattle.sfc.specs.inner.Gather.{Rebuildable, Restored, Cut}
 use Rattle.sfc.specs.declared.format.header.Head.{Head}

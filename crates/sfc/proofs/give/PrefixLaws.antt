@@ -10,11 +10,11 @@ use borrow.Author.Tests.{eq-eqb, ne-eqb, lt-ltb, le-ltb}
 use lib.ListN.{length, getD, take, drop}
 use lib.Seq.{drop-length, length-take-le, take-take, take-all}
 use Rattle.little.proofs.PartLaws.{drop-down}
-use Rattle.sfc.specs.format.Chunk.{number, place}
+use Rattle.sfc.specs.answer.Places.{number, place}
 use Rattle.little.specs.Parts.{put}
 use Rattle.sfc.specs.answer.Numbers.{Answered}
 use Rattle.sfc.specs.session.Marks.{isHeld}
-use Rattle.sfc.specs.session.Session.{lentWrong}
+use Rattle.sfc.specs.session.Lent.{lentWrong}
 use Rattle.sfc.specs.give.Prefix.{leading, prefixBlocks, prefixOf, prefixGiven}
 use Rattle.sfc.specs.declared.format.header.Head.{Head}
 use Rattle.sfc.specs.declared.answer.reason.Reason.the-variants.{Lent, OutputShort}

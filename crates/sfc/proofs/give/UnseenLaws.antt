@@ -17,11 +17,12 @@ use Rattle.cauchy.specs.Decode.{decode, decoded}
 use Rattle.cauchy.proofs.BlockLaws.{joined-ext}
 use Rattle.cauchy.proofs.Theorems.{theorems}
 use Rattle.sfc.specs.answer.Numbers.{Check, checked, passes}
-use Rattle.sfc.specs.format.Chunk.{number, place}
+use Rattle.sfc.specs.answer.Places.{number, place}
 use Rattle.sfc.specs.session.Marks.{isHeld, heldCount}
-use Rattle.sfc.specs.session.Session.{Session, lentWrong}
+use Rattle.sfc.specs.session.Session.{Session}
+use Rattle.sfc.specs.session.Lent.{lentWrong, Lent, rebuildWrong}
 use Rattle.sfc.specs.give.Prefix.{leading, prefixBlocks, prefixGiven}
-use Rattle.sfc.specs.give.HandOut.{Lent, rebuildWrong, lentAfter, contentOf, handOut}
+use Rattle.sfc.specs.give.HandOut.{lentAfter, contentOf, handOut}
 use Rattle.sfc.specs.give.Block.{blockGiven, blockLent, blockChecks, blockRequest}
 use Rattle.sfc.specs.demand.Demand3.{SameHeld}
 use Rattle.sfc.specs.declared.format.header.Head.{Head}

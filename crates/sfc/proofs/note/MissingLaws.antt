@@ -11,7 +11,8 @@ use lib.Seq.{length-take-le, drop-length, drop-set-lt, drop-cons, getD-set-same}
 use Rattle.little.specs.Parts.{put}
 use Rattle.little.proofs.PartLaws.{drop-down}
 use Rattle.little.proofs.ListLaws.{drop-set}
-use Rattle.sfc.specs.session.Marks.{isHeld, heldCount, marksWrong}
+use Rattle.sfc.specs.session.Marks.{isHeld, heldCount}
+use Rattle.sfc.specs.session.Lent.{marksWrong}
 use Rattle.sfc.specs.answer.Numbers.{Answered}
 use Rattle.sfc.specs.note.Missing.{unheldFrom, missing, listMissing}
 use Rattle.sfc.specs.declared.note.missing.Listed.{Listed}

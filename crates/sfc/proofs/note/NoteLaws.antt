@@ -13,7 +13,7 @@ use lib.Seq.{length-take-le, drop-at, drop-drop}
 use Rattle.little.specs.Parts.{part, put}
 use Rattle.little.proofs.PartLaws.{lent, length-part, length-put}
 use Rattle.little.proofs.TestLaws.{or-false}
-use Rattle.sfc.specs.session.Marks.{marksWrong}
+use Rattle.sfc.specs.session.Lent.{marksWrong}
 use Rattle.sfc.specs.answer.Numbers.{Answered}
 use Rattle.sfc.specs.note.Missing.{Range, unheldFrom, missing, ranges, apartFrom, maximal}
 use Rattle.sfc.specs.note.Note.{be, bigBytes, pairBytes, pairsBytes, noteOf, writeNote, indexPut, uuidIn, countIn, pairsFrom, rangesIn, malformed, bounds, refusedNote, readNote}

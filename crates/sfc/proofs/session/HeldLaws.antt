@@ -17,7 +17,7 @@ use Rattle.cauchy.specs.Decode.{held, count, holding, rank, foundWords, decode,
 use Rattle.cauchy.specs.Theorems.{Shape}
 use Rattle.cauchy.proofs.BlockLaws.{length-wordBytes}
 use Rattle.sfc.specs.session.Marks.{isHeld, heldCount}
-use Rattle.sfc.specs.session.Session.{lentWrong}
+use Rattle.sfc.specs.session.Lent.{lentWrong}
 use Rattle.sfc.specs.give.HandOut.{contentOf}
 use Rattle.sfc.specs.declared.format.header.Head.{Head}
 use Rattle.sfc.proofs.format.LimitLaws.{wanted-holds}

@@ -15,11 +15,12 @@ use Rattle.little.proofs.PartLaws.{length-part, put-same}
 use Rattle.little.proofs.TestLaws.{or-false}
 use Rattle.little.specs.Runs.{zeros, same}
 use Rattle.sfc.specs.answer.Numbers.{verdict, numberOf}
-use Rattle.sfc.specs.format.Limits.{shapeWrong}
-use Rattle.sfc.specs.session.Marks.{marksFit, marksWrong}
-use Rattle.sfc.specs.format.Chunk.{indexOf, payloadLength, payloadOf, chunkChecks, number, place}
+use Rattle.sfc.specs.session.Lent.{shapeWrong, marksWrong, lentWrong}
+use Rattle.sfc.specs.session.Marks.{marksKnown}
+use Rattle.sfc.specs.format.Chunk.{indexOf, payloadLength, payloadOf, chunkChecks}
+use Rattle.sfc.specs.answer.Places.{number, place}
 use Rattle.sfc.specs.session.Tallies.{noTallies, sum, total, tallyOf, tallyFull, countedRefusal, counted}
-use Rattle.sfc.specs.session.Session.{Session, mark, blockOf, lentWrong, sessionWrong, verdictOf, withBlock, settled, tallied, after}
+use Rattle.sfc.specs.session.Session.{Session, mark, blockOf, sessionWrong, verdictOf, withBlock, settled, tallied, after}
 use Rattle.sfc.specs.inner.Steps.{Welcome}
 use Rattle.sfc.specs.session.History.{afterAll}
 use Rattle.sfc.specs.session.SessionTheorems.{SameKept, ShortOf43, ManyOffers}
@@ -76,7 +77,7 @@ module _ (h : Head) where
   unfolding lentWrong marksWrong
   right-again k l e g =
       let a = or-false (marksWrong (h .size) (h .n) (h .m) (h .s) (k .marks)) (not (eqb (length (k .store)) ((h .n + h .m) * h .s))) e in
-      let b = or-false _ (not (marksFit (k .marks))) (a .0) in
+      let b = or-false _ (not (marksKnown (k .marks))) (a .0) in
       let c = or-false (shapeWrong (h .size) (h .n) (h .m) (h .s)) (not (eqb (length (k .marks)) (h .n + h .m))) (b .0) in
       rw (c .0, eq-eqb (length (l .store)) ((h .n + h .m) * h .s) (g .store-long), eq-eqb (length (l .marks)) (h .n + h .m) (g .marks-long), fit-all (l .marks) (g .fit))
 

@@ -5,14 +5,15 @@ use mathlib.Core.Bool.{Bool, true, false, not, _&&_, _||_}
 use mathlib.Core.List.{List, [], _∷_}
 use native.Mathlib.Nat.{mul-le-mul}
 use native.Mathlib.Omega.{arith}
-use borrow.Author.Tests.{eqb-true, ltb-true, ltb-false, lt-ltb, not-false}
+use borrow.Author.Tests.{eq-eqb, ne-eqb, eqb-true, ltb-true, ltb-false, lt-ltb, not-false}
 use lib.Dec.{eqb, ltb}
 use lib.ListN.{length, getD, drop}
 use lib.Seq.{drop-length}
 use Rattle.little.proofs.PartLaws.{drop-down}
 use Rattle.little.proofs.TestLaws.{or-false, and-both}
-use Rattle.sfc.specs.format.Limits.{unlawful, aboveHouse, shapeWrong, wantedBlocks}
-use Rattle.sfc.specs.session.Marks.{marksFit, marksWrong}
+use Rattle.sfc.specs.format.Limits.{unlawful, aboveHouse, wantedBlocks}
+use Rattle.sfc.specs.session.Lent.{shapeWrong, marksWrong}
+use Rattle.sfc.specs.session.Marks.{barredCount, marksKnown}
 
 -- ---- what 71 lets through
 
@@ -61,36 +62,51 @@ right-shape size n m s e =
 pub record RightMarks (size n m s : ℕ) (marks : List ℕ) : Type 0 where
   pub shape : RightShape size n m s
   pub marks-long : length marks ≡ n + m
-  pub fit : marksFit marks ≡ true
+  pub fit : marksKnown marks ≡ true
 
 pub right-marks : (size n m s : ℕ) (marks : List ℕ) → marksWrong size n m s marks ≡ false → RightMarks size n m s marks
 unfolding marksWrong
 right-marks size n m s marks e =
-    let a = or-false _ (not (marksFit marks)) e in
+    let a = or-false _ (not (marksKnown marks)) e in
     let b = or-false (shapeWrong size n m s) (not (eqb (length marks) (n + m))) (a .0) in
     record {
       shape = right-shape size n m s (b .0);
       marks-long = eqb-true (length marks) (n + m) (not-false (eqb (length marks) (n + m)) (b .1));
-      fit = not-false (marksFit marks) (a .1);
+      fit = not-false (marksKnown marks) (a .1);
     }
 
 -- a mark is below 3
-pub fit-at : (marks : List ℕ) (i : ℕ) → marksFit marks ≡ true → getD marks i 0 < 3
-unfolding marksFit
+pub fit-at : (marks : List ℕ) (i : ℕ) → marksKnown marks ≡ true → getD marks i 0 < 3
+unfolding marksKnown
 fit-at [] i e = omega arith
-fit-at (k ∷ marks) zero e = ltb-true k 3 (and-both (ltb k 3) (marksFit marks) e .0)
-fit-at (k ∷ marks) (suc i) e = fit-at marks i (and-both (ltb k 3) (marksFit marks) e .1)
+fit-at (k ∷ marks) zero e = ltb-true k 3 (and-both (ltb k 3) (marksKnown marks) e .0)
+fit-at (k ∷ marks) (suc i) e = fit-at marks i (and-both (ltb k 3) (marksKnown marks) e .1)
 
-pub fit-all : (marks : List ℕ) → ((i : ℕ) → getD marks i 0 < 3) → marksFit marks ≡ true
-unfolding marksFit
+pub fit-all : (marks : List ℕ) → ((i : ℕ) → getD marks i 0 < 3) → marksKnown marks ≡ true
+unfolding marksKnown
 fit-all [] f = refl
 fit-all (k ∷ marks) f = rw (lt-ltb k 3 (f 0), fit-all marks (λ i. f (suc i)))
 
-pub fit-start : (marks : List ℕ) → true ≡ marksFit (drop (length marks) marks)
-unfolding marksFit
+pub fit-start : (marks : List ℕ) → true ≡ marksKnown (drop (length marks) marks)
+unfolding marksKnown
 fit-start marks = rw drop-length
 
-pub fit-turn : (marks : List ℕ) (i : ℕ) (fit : Bool) → 0 < i → i ≤ length marks → fit ≡ marksFit (drop i marks)
-    → (ltb (getD marks (i - 1) 0) 3 && fit) ≡ marksFit (drop (i - 1) marks)
-unfolding marksFit
+pub fit-turn : (marks : List ℕ) (i : ℕ) (fit : Bool) → 0 < i → i ≤ length marks → fit ≡ marksKnown (drop i marks)
+    → (ltb (getD marks (i - 1) 0) 3 && fit) ≡ marksKnown (drop (i - 1) marks)
+unfolding marksKnown
 fit-turn marks i fit h k e = rw (drop-down marks i h k, e)
+
+-- ---- how many are barred, for a loop that counts i down
+
+pub barred-start : (xs : List ℕ) → 0 ≡ barredCount (drop (length xs) xs)
+unfolding barredCount
+barred-start xs = rw drop-length
+
+module _ (xs : List ℕ) (i : ℕ) (h : 0 < i) (k : i ≤ length xs) where
+  pub barred-more : (n : ℕ) → getD xs (i - 1) 0 ≡ 2 → n ≡ barredCount (drop i xs) → n + 1 ≡ barredCount (drop (i - 1) xs)
+  unfolding barredCount
+  barred-more n e f = rw (drop-down xs i h k, eq-eqb _ _ e) (omega arith)
+
+  pub barred-same : (n : ℕ) → (getD xs (i - 1) 0 ≡ 2 → ⊥) → n ≡ barredCount (drop i xs) → n ≡ barredCount (drop (i - 1) xs)
+  unfolding barredCount
+  barred-same n e f = rw (drop-down xs i h k, ne-eqb _ _ e) f

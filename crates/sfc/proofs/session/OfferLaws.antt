@@ -14,7 +14,8 @@ use Rattle.little.proofs.PartLaws.{length-part, length-putBlock, block-put, blo
 use Rattle.little.proofs.TestLaws.{and-both}
 use Rattle.little.specs.Runs.{zeros, same}
 use Rattle.sfc.specs.answer.Numbers.{Check, checked, numberOf, reasonOf}
-use Rattle.sfc.specs.format.Chunk.{indexOf, payloadLength, payloadOf, chunkChecks, number, place}
+use Rattle.sfc.specs.format.Chunk.{indexOf, payloadLength, payloadOf, chunkChecks}
+use Rattle.sfc.specs.answer.Places.{number, place}
 use Rattle.sfc.specs.session.Tallies.{tallyFull}
 use Rattle.sfc.specs.session.Session.{Session, mark, blockOf, sessionWrong, markChecks, offerChecks, welcomed, verdictOf, withBlock, settled, tallied, after}
 use Rattle.sfc.specs.inner.Steps.{Welcome}

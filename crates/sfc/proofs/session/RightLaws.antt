@@ -11,11 +11,10 @@ use Rattle.little.specs.Fields.{Bytes}
 use Rattle.little.proofs.FieldLaws.{bytes-part, bytes-put}
 use Rattle.little.specs.Runs.{zeros}
 use Rattle.sfc.specs.answer.Numbers.{numberOf}
-use Rattle.sfc.specs.format.Limits.{shapeWrong}
-use Rattle.sfc.specs.session.Marks.{marksWrong}
+use Rattle.sfc.specs.session.Lent.{shapeWrong, marksWrong, lentWrong}
 use Rattle.sfc.specs.format.Header.{regionOf, headOf, headerChecks, refusedHeader, acceptedHeader, readHeader}
 use Rattle.sfc.specs.format.Chunk.{indexOf, payloadLength, payloadOf}
-use Rattle.sfc.specs.session.Session.{Session, blank, lentWrong, verdictOf, withBlock, settled, after}
+use Rattle.sfc.specs.session.Session.{Session, blank, verdictOf, withBlock, settled, after}
 use Rattle.sfc.specs.session.History.{afterAll}
 use Rattle.sfc.specs.demand.Demand3.{Right, AllBytes}
 use Rattle.sfc.specs.declared.format.header.Head.{Head}

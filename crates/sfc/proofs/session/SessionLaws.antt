@@ -12,10 +12,12 @@ use Rattle.little.proofs.PartLaws.{lent, length-part, put-same, block-inside}
 use Rattle.little.proofs.TestLaws.{or-false}
 use Rattle.little.specs.Runs.{zeros, same}
 use Rattle.sfc.specs.answer.Numbers.{Check, checked, verdict, numberOf, reasonOf}
-use Rattle.sfc.specs.session.Marks.{marksFit, marksWrong}
-use Rattle.sfc.specs.format.Chunk.{indexOf, payloadLength, payloadOf, chunkLength, chunkChecks, number, place}
+use Rattle.sfc.specs.session.Marks.{marksKnown}
+use Rattle.sfc.specs.session.Lent.{marksWrong, lentWrong}
+use Rattle.sfc.specs.format.Chunk.{indexOf, payloadLength, payloadOf, chunkLength, chunkChecks}
+use Rattle.sfc.specs.answer.Places.{number, place}
 use Rattle.sfc.specs.session.Tallies.{tallyFull, countedRefusal, counted}
-use Rattle.sfc.specs.session.Session.{Session, mark, blockOf, lentWrong, sessionWrong, markChecks, welcomed, verdictOf, settled, tallied, after, Offered, offered}
+use Rattle.sfc.specs.session.Session.{Session, mark, blockOf, sessionWrong, markChecks, welcomed, verdictOf, settled, tallied, after, Offered, offered}
 use Rattle.sfc.specs.inner.Steps.{Stepped, stepped, Welcome}
 use Rattle.sfc.specs.declared.format.header.Head.{Head}
 use Rattle.sfc.specs.declared.session.tallies.Tallies.{Tallies}
@@ -36,7 +38,7 @@ pub record RightLent (size n m s : ℕ) (store marks : List ℕ) : Type 0 where
   pub shape : RightShape size n m s
   pub store-long : length store ≡ (n + m) * s
   pub marks-long : length marks ≡ n + m
-  pub fit : marksFit marks ≡ true
+  pub fit : marksKnown marks ≡ true
 
 pub right-lent : (size n m s : ℕ) (store marks : List ℕ) → lentWrong size n m s store marks ≡ false → RightLent size n m s store marks
 unfolding lentWrong

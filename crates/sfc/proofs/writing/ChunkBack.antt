@@ -14,7 +14,7 @@ use Rattle.blake3.specs.Tree.{hash}
 use Rattle.sfc.specs.format.Bytes.{standsAt}
 use Rattle.little.specs.Runs.{zeros}
 use Rattle.sfc.specs.answer.Numbers.{verdict}
-use Rattle.sfc.specs.format.Chunk.{chunkMagic, endMarker, indexOf, typeOf, payloadLength, payloadOf, chunkLength, typeFor, lengthChecks, sealChecks, kinChecks, chunkChecks}
+use Rattle.sfc.specs.format.Chunk.{chunkMagic, endMarker, indexOf, typeOf, payloadLength, payloadOf, chunkLength, typeFor, lengthChecks, sealChecks, headChecks, chunkChecks}
 use Rattle.sfc.specs.writing.Writer.{compression, erasureFor, chunkHeader, sealed, chunkBytes}
 use Rattle.sfc.specs.declared.format.header.Head.{Head}
 use Rattle.sfc.specs.declared.answer.reason.Checked.the-variants.{Good, Refused}
@@ -163,8 +163,8 @@ module _ (h : Head) (i : ℕ) (p rest : List ℕ) (m : Made h i p) where
   seal-passed : Passed (sealChecks made)
   seal-passed = (ap not hash-there, (ap not (stands-there made (80 + payloadLength made) endMarker rest from-end), tt))
 
-  kin-passed : Passed (kinChecks h made)
-  kin-passed = (
+  head-passed : Passed (headChecks h made)
+  head-passed = (
     ap not (stands-there made 4 (h .uuid) at-20 from-4),
     (
       lt-leb (h .n + h .m) (indexOf made) (omega (arith, index-back, m .inside)),
@@ -185,6 +185,6 @@ module _ (h : Head) (i : ℕ) (p rest : List ℕ) (m : Made h i p) where
 
   pub chunk-good : verdict (chunkChecks h made) ≡ Good
   chunk-good =
-      good-then Refused (lengthChecks (h .s) made) (sealChecks made ++ kinChecks h made) Good (all-passed (lengthChecks (h .s) made) length-passed)
-      ∙ good-then Refused (sealChecks made) (kinChecks h made) Good (all-passed (sealChecks made) seal-passed)
-      ∙ all-passed (kinChecks h made) kin-passed
+      good-then Refused (lengthChecks (h .s) made) (sealChecks made ++ headChecks h made) Good (all-passed (lengthChecks (h .s) made) length-passed)
+      ∙ good-then Refused (sealChecks made) (headChecks h made) Good (all-passed (sealChecks made) seal-passed)
+      ∙ all-passed (headChecks h made) head-passed

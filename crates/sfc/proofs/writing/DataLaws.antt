@@ -14,7 +14,7 @@ use Rattle.cauchy.specs.Code.{joined}
 use Rattle.cauchy.specs.Calls.{wrongShape}
 use Rattle.sfc.specs.format.Bytes.{padded}
 use Rattle.little.specs.Runs.{zeros}
-use Rattle.sfc.specs.format.Limits.{shapeWrong}
+use Rattle.sfc.specs.session.Lent.{shapeWrong}
 use Rattle.sfc.proofs.session.MarkLaws.{RightShape, right-shape}
 use Rattle.sfc.proofs.writing.LayoutLaws.{length-padded}
 use Rattle.sfc.proofs.format.LimitLaws.{wanted-holds}

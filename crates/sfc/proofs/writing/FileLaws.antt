@@ -14,7 +14,7 @@ use Rattle.little.proofs.FieldLaws.{long}
 use Rattle.blake3.specs.Tree.{hash}
 use Rattle.cauchy.specs.Code.{joined}
 use Rattle.sfc.specs.format.Bytes.{padded}
-use Rattle.sfc.specs.format.Limits.{shapeWrong}
+use Rattle.sfc.specs.session.Lent.{shapeWrong}
 use Rattle.sfc.specs.answer.Numbers.{Answered}
 use Rattle.sfc.specs.writing.Writer.{Input, size, blocks, identityBytes, shapeBytes, indexBytes, body, region, dataOf, payload, chunk, preamble, trailerBytes, trailer, fileOf, inputWrong, writeFile}
 use Rattle.sfc.specs.declared.answer.reason.Reason.the-variants.{WriterInput, WriterOutput}

@@ -12,7 +12,8 @@ use Rattle.little.proofs.PartLaws.{below-or}
 use Rattle.little.proofs.TestLaws.{or-false}
 use Rattle.little.specs.Runs.{any}
 use Rattle.sfc.specs.answer.Numbers.{passes}
-use Rattle.sfc.specs.format.Limits.{unlawful, aboveHouse, shapeWrong, lengthWrong}
+use Rattle.sfc.specs.format.Limits.{unlawful, aboveHouse, lengthWrong}
+use Rattle.sfc.specs.session.Lent.{shapeWrong}
 use Rattle.sfc.specs.format.Extension.{extensionWrong}
 use Rattle.sfc.specs.format.Header.{mispaired, flagsBarred, distinctBelow, priorityWrong, numberChecks, listChecks, regionChecks}
 use Rattle.sfc.specs.writing.Writer.{Input, size, blocks, erasureFor, body, region, outgrows, outgrown, nameWrong, hasReserved, inputWrong}

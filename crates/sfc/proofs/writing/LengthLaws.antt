@@ -13,7 +13,7 @@ use Rattle.blake3.specs.Compress.{compressed, folded, bytesOfWords}
 use Rattle.blake3.specs.Tree.{piece, parent, tree, hash}
 use Rattle.cauchy.specs.Code.{joined}
 use Rattle.cauchy.proofs.CodeLaws.{length-code}
-use Rattle.sfc.specs.format.Limits.{shapeWrong}
+use Rattle.sfc.specs.session.Lent.{shapeWrong}
 use Rattle.sfc.specs.writing.Writer.{Input, size, blocks, dataOf, payload, trailerBytes, sealed, chunkHeader, chunkBytes}
 use Rattle.sfc.proofs.writing.LayoutLaws.{length-header, length-padded}
 use Rattle.sfc.proofs.format.LimitLaws.{wanted-holds}

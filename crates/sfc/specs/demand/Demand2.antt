@@ -10,12 +10,14 @@ use lib.ListN.{length}
 use Rattle.little.specs.Fields.{Bytes}
 use Rattle.little.specs.Parts.{part, put}
 use Rattle.sfc.specs.answer.Numbers.{Answered}
-use Rattle.sfc.specs.format.Limits.{wantedBlocks, shapeWrong}
+use Rattle.sfc.specs.format.Limits.{wantedBlocks}
+use Rattle.sfc.specs.session.Lent.{shapeWrong, Lent}
 use Rattle.sfc.specs.format.Header.{readHeader, acceptedHeader}
-use Rattle.sfc.specs.format.Chunk.{payloadOf, number, place, checkChunk}
+use Rattle.sfc.specs.format.Chunk.{payloadOf, checkChunk}
+use Rattle.sfc.specs.answer.Places.{number, place}
 use Rattle.sfc.specs.session.Session.{Session, blank}
 use Rattle.sfc.specs.session.History.{afterAll, verdicts}
-use Rattle.sfc.specs.give.HandOut.{Lent, Rebuilding, lentAfter, handOut}
+use Rattle.sfc.specs.give.HandOut.{Rebuilding, lentAfter, handOut}
 use Rattle.little.specs.Runs.{among}
 use Rattle.sfc.specs.writing.Writer.{Input, size, blocks, body, region, preamble, trailer, payload, chunk, fileOf, inputWrong, writeFile, headFor}
 use Rattle.sfc.specs.demand.Demand3.{CompleteHasHash}

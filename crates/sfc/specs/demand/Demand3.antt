@@ -15,12 +15,13 @@ use Rattle.cauchy.specs.Decode.{usedMarks}
 use Rattle.little.specs.Runs.{same, among, risingFrom}
 use Rattle.sfc.specs.answer.Numbers.{reasonOf, Answered}
 use Rattle.sfc.specs.format.Header.{readHeader, acceptedHeader}
-use Rattle.sfc.specs.format.Chunk.{number, place}
+use Rattle.sfc.specs.answer.Places.{number, place}
 use Rattle.sfc.specs.session.Marks.{heldCount}
 use Rattle.sfc.specs.session.Session.{Session, blank, blockOf, sessionWrong}
 use Rattle.sfc.specs.session.History.{afterAll}
 use Rattle.sfc.specs.give.Prefix.{prefixGiven}
-use Rattle.sfc.specs.give.HandOut.{Lent, Rebuilding, rebuildWrong, lentAfter, handOut}
+use Rattle.sfc.specs.give.HandOut.{Rebuilding, lentAfter, handOut}
+use Rattle.sfc.specs.session.Lent.{Lent, rebuildWrong}
 use Rattle.sfc.specs.give.Block.{blockRequest}
 use Rattle.sfc.specs.note.Missing.{missing, listMissing}
 use Rattle.sfc.specs.session.SessionTheorems.{OneOffer, ManyOffers, EndState, TalliesCount}

@@ -10,13 +10,14 @@ use Rattle.little.specs.Fields.{le}
 use Rattle.blake3.specs.Tree.{hash}
 use Rattle.sfc.specs.format.Bytes.{standsAt}
 use Rattle.little.specs.Runs.{zeros}
-use Rattle.sfc.specs.answer.Numbers.{Check, checked, passes}
-use Rattle.sfc.specs.format.Limits.{shapeWrong}
+use Rattle.sfc.specs.answer.Numbers.{Check, checked}
+use Rattle.sfc.specs.answer.Places.{number, place}
+use Rattle.sfc.specs.session.Lent.{shapeWrong}
 use Rattle.sfc.specs.declared.format.header.Head.{Head}
-use Rattle.sfc.specs.declared.answer.places.BlockNumber.{BlockNumber}
-use Rattle.sfc.specs.declared.answer.places.BytePlace.{BytePlace}
 use Rattle.sfc.specs.declared.format.chunk.ChunkChecked.{ChunkChecked}
 use Rattle.sfc.specs.declared.format.chunk.ChunkChecked.the-variants.{Whole, Refused}
+use Rattle.sfc.specs.declared.format.chunk.ChunkMeasured.{ChunkMeasured}
+use Rattle.sfc.specs.declared.format.chunk.ChunkMeasured.the-variants.{Length, Refused as NotMeasured}
 
 -- a chunk's first four bytes, and its last four
 abbrev pub chunkMagic : List ℕ
@@ -35,7 +36,7 @@ typeOf c = le c 24 4
 abbrev pub payloadLength : List ℕ → ℕ
 payloadLength c = le c 28 4
 
--- the payload lies behind the header; a trailer of 36 bytes lies behind the payload
+-- the payload lies after the header; a trailer of 36 bytes lies after the payload
 abbrev pub payloadOf : List ℕ → List ℕ
 payloadOf c = part c 48 (payloadLength c)
 
@@ -55,10 +56,6 @@ lengthChecks s c =
     ∷ (ltb (length c) (chunkLength c), 30)
     ∷ []
 
--- how many bytes the chunk at the front of b takes up; none for bytes that 30, 31 or 32 refuses
-unfoldable pub frontLength : ℕ → List ℕ → ℕ
-frontLength s b = cond (passes (lengthChecks s b)) (chunkLength b) 0
-
 -- of its trailer: the hash of header and payload, and the end marker
 abbrev pub sealChecks : List ℕ → List Check
 sealChecks c =
@@ -67,8 +64,8 @@ sealChecks c =
     ∷ []
 
 -- of its header, against the file's
-abbrev pub kinChecks : Head → List ℕ → List Check
-kinChecks h c =
+abbrev pub headChecks : Head → List ℕ → List Check
+headChecks h c =
     (not (standsAt c 4 (h .uuid)), 35)
     ∷ (leb (h .n + h .m) (indexOf c), 36)
     ∷ (not (eqb (typeOf c) (typeFor (h .n) (indexOf c))), 37)
@@ -78,15 +75,17 @@ kinChecks h c =
     ∷ []
 
 abbrev pub chunkChecks : Head → List ℕ → List Check
-chunkChecks h c = lengthChecks (h .s) c ++ (sealChecks c ++ kinChecks h c)
+chunkChecks h c = lengthChecks (h .s) c ++ (sealChecks c ++ headChecks h c)
 
-abbrev pub number : ℕ → BlockNumber
-number i = record { 0 = i }
+-- the chunk at the front of some bytes, as far as its length: 71 judges the four numbers of the head that is handed in
+abbrev pub measureChecks : Head → List ℕ → List Check
+measureChecks h b = (shapeWrong (h .size) (h .n) (h .m) (h .s), 71) ∷ lengthChecks (h .s) b
 
-abbrev pub place : ℕ → BytePlace
-place p = record { 0 = p }
+-- how many bytes it takes up
+unfoldable pub measureChunk : Head → List ℕ → ChunkMeasured
+measureChunk h b = checked (measureChecks h b) NotMeasured (Length (chunkLength b))
 
--- of a chunk by itself: 71 judges the four numbers of the head that is handed in; 43, 42 and 41 are a session's
+-- of a chunk by itself; 43, 42 and 41 are a session's
 abbrev pub aloneChecks : Head → List ℕ → List Check
 aloneChecks h c = (shapeWrong (h .size) (h .n) (h .m) (h .s), 71) ∷ chunkChecks h c
 

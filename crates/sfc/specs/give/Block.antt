@@ -8,9 +8,10 @@ use lib.ListN.{length, getD}
 use Rattle.little.specs.Parts.{put}
 use Rattle.cauchy.specs.Decode.{decode}
 use Rattle.sfc.specs.answer.Numbers.{Check, checked, passes}
-use Rattle.sfc.specs.format.Chunk.{number, place}
+use Rattle.sfc.specs.answer.Places.{number, place}
 use Rattle.sfc.specs.session.Marks.{isHeld, heldCount}
-use Rattle.sfc.specs.give.HandOut.{Lent, Rebuilding, rebuildWrong, lentAfter}
+use Rattle.sfc.specs.give.HandOut.{Rebuilding, lentAfter}
+use Rattle.sfc.specs.session.Lent.{Lent, rebuildWrong}
 use Rattle.sfc.specs.declared.format.header.Head.{Head}
 use Rattle.sfc.specs.declared.answer.reason.Reason.{Reason}
 use Rattle.sfc.specs.declared.give.prefix.Given.{Given}

@@ -1,38 +1,27 @@
 -- The hand-out (document 01, "Marks, hand-out, prefix"): the one call that says complete. Assumes nothing: these are
 -- definitions.
-use Prim.Native.Nat.{ℕ, _*_}
-use mathlib.Core.Bool.{Bool, cond, not, _||_}
+use Prim.Native.Nat.{ℕ}
+use mathlib.Core.Bool.{Bool, cond, not}
 use mathlib.Core.List.{List, [], _∷_, _++_}
-use lib.Dec.{ltb, eqb}
+use lib.Dec.{ltb}
 use lib.ListN.{length, take}
 use Rattle.little.specs.Parts.{put}
 use Rattle.blake3.specs.Tree.{hash}
 use Rattle.cauchy.specs.Decode.{decoded}
 use Rattle.little.specs.Runs.{zeros, same}
 use Rattle.sfc.specs.answer.Numbers.{Check, checked, passes, Answered}
-use Rattle.sfc.specs.format.Chunk.{place}
+use Rattle.sfc.specs.answer.Places.{place}
 use Rattle.sfc.specs.session.Marks.{heldCount}
-use Rattle.sfc.specs.session.Session.{lentWrong}
+use Rattle.sfc.specs.session.Lent.{Lent, rebuildWrong}
 use Rattle.sfc.specs.declared.format.header.Head.{Head}
 use Rattle.sfc.specs.declared.answer.reason.Reason.{Reason}
 use Rattle.sfc.specs.declared.give.hand_out.HandedOut.{HandedOut}
 use Rattle.sfc.specs.declared.give.hand_out.HandedOut.the-variants.{Complete, Refused}
 
--- what is lent beside store and marks: scratch for the rebuilt blocks, the numbers in which they are solved for, the output
-pub record Lent : Type 0 where
-  pub scratch : List ℕ
-  pub numbers : List ℕ
-  pub output : List ℕ
-
 -- what a call that may rebuild answers, and what is lent holds afterwards
 pub record Rebuilding (A : Type 0) : Type 0 where
   pub answer : A
   pub lent : Lent
-
--- 71, with the scratch: M·S bytes and 1,024 numbers
-unfoldable pub rebuildWrong : Head → List ℕ → List ℕ → Lent → Bool
-rebuildWrong h store marks l =
-    lentWrong (h .size) (h .n) (h .m) (h .s) store marks || not (eqb (length (l .scratch)) (h .m * h .s)) || not (eqb (length (l .numbers)) 1024)
 
 -- scratch is all zeros once the lent memory was found right, whatever came of it, and untouched before
 unfoldable pub lentAfter : Bool → Lent → List ℕ → Lent

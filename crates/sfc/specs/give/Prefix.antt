@@ -6,9 +6,9 @@ use lib.Dec.{ltb}
 use lib.ListN.{length, take}
 use Rattle.little.specs.Parts.{put}
 use Rattle.sfc.specs.answer.Numbers.{Check, checked, Answered}
-use Rattle.sfc.specs.format.Chunk.{number, place}
+use Rattle.sfc.specs.answer.Places.{number, place}
 use Rattle.sfc.specs.session.Marks.{isHeld}
-use Rattle.sfc.specs.session.Session.{lentWrong}
+use Rattle.sfc.specs.session.Lent.{lentWrong}
 use Rattle.sfc.specs.declared.format.header.Head.{Head}
 use Rattle.sfc.specs.declared.answer.reason.Reason.{Reason}
 use Rattle.sfc.specs.declared.give.prefix.Given.{Given}

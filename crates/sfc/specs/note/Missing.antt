@@ -7,7 +7,8 @@ use lib.Dec.{ltb, leb, eqb}
 use lib.ListN.{length, take}
 use Rattle.little.specs.Parts.{put}
 use Rattle.sfc.specs.answer.Numbers.{Check, checked, Answered}
-use Rattle.sfc.specs.session.Marks.{isHeld, heldCount, marksWrong}
+use Rattle.sfc.specs.session.Marks.{isHeld, heldCount}
+use Rattle.sfc.specs.session.Lent.{marksWrong}
 use Rattle.sfc.specs.declared.answer.reason.Reason.{Reason}
 use Rattle.sfc.specs.declared.note.missing.Listed.{Listed}
 use Rattle.sfc.specs.declared.note.missing.Listed.the-variants.{Count, Refused}

@@ -8,7 +8,7 @@ use lib.ListN.{length, getD, drop}
 use Rattle.little.specs.Parts.{part, put}
 use Rattle.little.specs.Runs.{zeros}
 use Rattle.sfc.specs.answer.Numbers.{Answered, Check, checked}
-use Rattle.sfc.specs.session.Marks.{marksWrong}
+use Rattle.sfc.specs.session.Lent.{marksWrong}
 use Rattle.sfc.specs.note.Missing.{Range, missing, ranges, maximal}
 use Rattle.sfc.specs.declared.answer.reason.Reason.{Reason}
 use Rattle.sfc.specs.declared.answer.reason.Checked.the-variants.{Good, Refused}

@@ -10,7 +10,8 @@ use lib.ListN.{length, getD}
 use Rattle.little.specs.Parts.{put}
 use Rattle.little.specs.Fields.{Bytes}
 use Rattle.little.specs.Runs.{any, among, risingFrom}
-use Rattle.sfc.specs.session.Marks.{isHeld, heldCount, marksWrong}
+use Rattle.sfc.specs.session.Marks.{isHeld, heldCount}
+use Rattle.sfc.specs.session.Lent.{marksWrong}
 use Rattle.sfc.specs.answer.Numbers.{Answered}
 use Rattle.sfc.specs.note.Missing.{missing, Range, ranges, maximal}
 use Rattle.sfc.specs.note.Note.{noteOf, malformed, bounds, readNote}

@@ -1,11 +1,9 @@
 -- The marks of a session (document 01, "Marks, hand-out, prefix"): 0 for an absent index, 1 for a held and 2 for a barred
 -- one. Assumes nothing: these are definitions.
-use Prim.Native.Nat.{ℕ, suc, _+_}
-use mathlib.Core.Bool.{Bool, true, cond, not, _&&_, _||_}
+use Prim.Native.Nat.{ℕ, suc}
+use mathlib.Core.Bool.{Bool, true, cond, _&&_}
 use mathlib.Core.List.{List, [], _∷_}
 use lib.Dec.{ltb, eqb}
-use lib.ListN.{length}
-use Rattle.sfc.specs.format.Limits.{shapeWrong}
 
 abbrev pub isHeld : ℕ → Bool
 isHeld mark = eqb mark 1
@@ -15,11 +13,12 @@ unfoldable pub heldCount : List ℕ → ℕ
 heldCount [] = 0
 heldCount (k ∷ ks) = cond (isHeld k) (suc (heldCount ks)) (heldCount ks)
 
--- each is a mark
-unfoldable pub marksFit : List ℕ → Bool
-marksFit [] = true
-marksFit (k ∷ ks) = ltb k 3 && marksFit ks
+-- how many are barred
+unfoldable pub barredCount : List ℕ → ℕ
+barredCount [] = 0
+barredCount (k ∷ ks) = cond (eqb k 2) (suc (barredCount ks)) (barredCount ks)
 
--- 71, of the numbers handed in and the lent marks
-unfoldable pub marksWrong : ℕ → ℕ → ℕ → ℕ → List ℕ → Bool
-marksWrong size n m s marks = shapeWrong size n m s || not (eqb (length marks) (n + m)) || not (marksFit marks)
+-- each is one of the three
+unfoldable pub marksKnown : List ℕ → Bool
+marksKnown [] = true
+marksKnown (k ∷ ks) = ltb k 3 && marksKnown ks

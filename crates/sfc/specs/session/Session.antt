@@ -1,15 +1,16 @@
 -- The session: what an offer answers, and what it makes of store, marks and tallies (document 01, "Marks, hand-out,
 -- prefix"). Assumes nothing: these are definitions.
 use Prim.Native.Nat.{ℕ, _+_, _*_}
-use mathlib.Core.Bool.{Bool, cond, not, _&&_, _||_}
+use mathlib.Core.Bool.{Bool, cond, not, _&&_}
 use mathlib.Core.List.{List, [], _∷_, _++_}
 use lib.Dec.{eqb}
 use lib.ListN.{length, getD, set}
 use Rattle.little.specs.Parts.{block, putBlock}
 use Rattle.little.specs.Runs.{zeros, same}
 use Rattle.sfc.specs.answer.Numbers.{Check, checked, numberOf}
-use Rattle.sfc.specs.session.Marks.{marksWrong}
-use Rattle.sfc.specs.format.Chunk.{indexOf, payloadOf, chunkChecks, number, place}
+use Rattle.sfc.specs.session.Lent.{lentWrong}
+use Rattle.sfc.specs.format.Chunk.{indexOf, payloadOf, chunkChecks}
+use Rattle.sfc.specs.answer.Places.{number, place}
 use Rattle.sfc.specs.session.Tallies.{noTallies, tallyFull, counted}
 use Rattle.sfc.specs.declared.format.header.Head.{Head}
 use Rattle.sfc.specs.declared.session.tallies.Tallies.{Tallies}
@@ -22,6 +23,9 @@ pub record Session : Type 0 where
   pub marks : List ℕ
   pub tallies : Tallies
 
+abbrev pub sessionOf : List ℕ → List ℕ → Tallies → Session
+sessionOf store marks tallies = record { store = store; marks = marks; tallies = tallies }
+
 -- as it starts
 abbrev pub blank : Head → Session
 blank h = record { store = zeros ((h .n + h .m) * h .s); marks = zeros (h .n + h .m); tallies = noTallies }
@@ -33,10 +37,7 @@ mark x i = getD (x .marks) i 0
 abbrev pub blockOf : Head → Session → ℕ → List ℕ
 blockOf h x i = block (h .s) (x .store) i
 
--- 71, of what is lent to a call: the numbers, the marks, the store's length
-unfoldable pub lentWrong : ℕ → ℕ → ℕ → ℕ → List ℕ → List ℕ → Bool
-lentWrong size n m s store marks = marksWrong size n m s marks || not (eqb (length store) ((n + m) * s))
-
+-- 71, of a head and a session
 abbrev pub sessionWrong : Head → Session → Bool
 sessionWrong h x = lentWrong (h .size) (h .n) (h .m) (h .s) (x .store) (x .marks)
 
@@ -83,6 +84,9 @@ after h x c = tallied (settled h x c (verdictOf h x c)) (verdictOf h x c)
 pub record Offered : Type 0 where
   pub session : Session
   pub verdict : Verdict
+
+abbrev pub offeredOf : List ℕ → List ℕ → Tallies → Verdict → Offered
+offeredOf store marks tallies verdict = record { session = sessionOf store marks tallies; verdict = verdict }
 
 unfoldable pub offered : Head → Session → List ℕ → Offered
 offered h x c = record { session = after h x c; verdict = verdictOf h x c }

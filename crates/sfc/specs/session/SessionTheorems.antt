@@ -8,7 +8,8 @@ use lib.Dec.{eqb}
 use lib.ListN.{length}
 use Rattle.little.specs.Runs.{zeros}
 use Rattle.sfc.specs.answer.Numbers.{verdict, numberOf}
-use Rattle.sfc.specs.format.Chunk.{indexOf, payloadOf, chunkChecks, number, place}
+use Rattle.sfc.specs.format.Chunk.{indexOf, payloadOf, chunkChecks}
+use Rattle.sfc.specs.answer.Places.{number, place}
 use Rattle.sfc.specs.session.Tallies.{total, tallyOf, counted}
 use Rattle.sfc.specs.session.Session.{Session, blank, mark, blockOf, sessionWrong, verdictOf, after}
 use Rattle.sfc.specs.session.History.{afterAll, verdicts, payloadsFor, endOf}

@@ -1,4 +1,4 @@
-// Which block, and which byte: two types, so that neither can pass for the other in the console's columns.
+// Which block, and which byte: two types, so that neither can pass for the other. Each call says what it counts from.
 pub struct BlockNumber(pub u32);
 
 pub struct BytePlace(pub u32);

@@ -1,17 +1,52 @@
-// The check of a chunk by itself, against the header and before the session.
+// The check of a chunk by itself, against the header and before the session; and how long the chunk at the front of some bytes is.
 use crate::answer::checks::refuse_if;
 use crate::answer::places::BlockNumber;
 use crate::answer::places::BytePlace;
 use crate::answer::reason::Checked;
 use crate::answer::reason::Reason;
 use crate::format::header::Head;
-use crate::format::limits::is_shape_wrong;
 use crate::format::text::stands_at;
+use crate::session::lent::is_shape_wrong;
 ghost use mathlib.Core.Path.{_≡_};
 ghost use Prim.Native.Nat.{_+_, _≤_};
 ghost use lib.ListN.{length};
 ghost use Rattle.sfc.specs.answer.Numbers.{verdict};
-ghost use Rattle.sfc.specs.format.Chunk.{payloadLength, typeFor, lengthChecks, sealChecks, kinChecks, chunkChecks, frontLength, checkChunk};
+ghost use Rattle.sfc.specs.format.Chunk.{indexOf, payloadLength, typeFor, lengthChecks, sealChecks, headChecks, chunkChecks, measureChunk, checkChunk};
+
+// A chunk is a header, the payload, and a trailer of hash and end marker.
+pub(crate) const CHUNK_HEADER: usize = 48;
+
+pub(crate) const CHUNK_TRAILER: usize = 36;
+
+pub(crate) const CHUNK_OUTER: usize = CHUNK_HEADER + CHUNK_TRAILER;
+
+pub(crate) const CHUNK_MAGIC: [u8; 4] = *b"CHK\0";
+
+pub(crate) const END_MARKER: [u8; 4] = *b"/CHK";
+
+// Where the fields of its header stand, and how many bytes are reserved.
+pub(crate) const UUID_AT: usize = 4;
+
+pub(crate) const INDEX_AT: usize = 20;
+
+pub(crate) const TYPE_AT: usize = 24;
+
+pub(crate) const PAYLOAD_LENGTH_AT: usize = 28;
+
+pub(crate) const COMPRESSION_AT: usize = 32;
+
+pub(crate) const ERASURE_AT: usize = 33;
+
+pub(crate) const RESERVED_AT: usize = 34;
+
+const RESERVED: usize = 14;
+
+// Where the end marker stands, in a chunk without payload.
+const END_MARKER_AT: usize = CHUNK_OUTER - 4;
+
+const DATA: u32 = 1;
+
+const RECOVERY: u32 = 2;
 
 // A whole chunk: its index, and the place in it where the payload begins.
 pub enum ChunkChecked {
@@ -19,33 +54,54 @@ pub enum ChunkChecked {
     Refused(Reason),
 }
 
+// How many bytes the chunk at the front takes up.
+pub enum ChunkMeasured {
+    Length(usize),
+    Refused(Reason),
+}
+
+pub(crate) fn index_of(c: &[u8]) -> u32
+    ensures { λ r. ⌜ r ≡ indexOf (now (c .entry)) ⌝ }
+{
+    little::read32(c, INDEX_AT)
+}
+
+pub(crate) fn payload_length(c: &[u8]) -> u32
+    ensures { λ r. ⌜ r ≡ payloadLength (now (c .entry)) ⌝ }
+{
+    little::read32(c, PAYLOAD_LENGTH_AT)
+}
+
+pub(crate) fn type_for(n: u32, index: u32) -> u32
+    ensures { λ r. ⌜ r ≡ typeFor n index ⌝ }
+{
+    if index < n { DATA } else { RECOVERY }
+}
+
 // 30, 31, 32, 30: what must hold before the rest can be looked at.
 fn check_length(s: u32, c: &[u8]) -> Checked
     ensures { λ r. ⌜ r ≡ verdict (lengthChecks s (now (c .entry))) ⌝ }
 {
-    let payload = little::read32(c, 28);
-    let cut = refuse_if(
-        c.len() < 84 + payload as usize,
-        Reason::ChunkShort,
-        Checked::Good,
-    );
-    let long = refuse_if(
-        (2 * (s as u64)) < (payload as u64),
-        Reason::PayloadLong,
-        cut,
-    );
-    let magic = refuse_if(!stands_at(c, 0, b"CHK\0"), Reason::ChunkMagic, long);
-    refuse_if(c.len() < 48, Reason::ChunkShort, magic)
+    let payload = payload_length(c);
+    let cut = c.len() < CHUNK_OUTER + payload as usize;
+    let long = (2 * (s as u64)) < (payload as u64);
+    let header = refuse_if(Checked::Good, c.len() < CHUNK_HEADER, Reason::ChunkShort);
+    let magic = refuse_if(header, !stands_at(c, 0, &CHUNK_MAGIC), Reason::ChunkMagic);
+    let length = refuse_if(magic, long, Reason::PayloadLong);
+    refuse_if(length, cut, Reason::ChunkShort)
 }
 
-// How many bytes the chunk at the front takes up; 0 where 30, 31 or 32 says that none is to be found there.
-pub fn front_length(s: u32, b: &[u8]) -> usize
-    ensures { λ r. ⌜ r ≡ frontLength s (now (b .entry)) ⌝ }
+// How far the next chunk is to be looked for; 30, 31 and 32 say that none is to be found.
+pub fn measure_chunk(h: Head, b: &[u8]) -> ChunkMeasured
+    ensures { λ r. ⌜ r ≡ measureChunk h (now (b .entry)) ⌝ }
 {
-    let checked = check_length(s, b);
+    if is_shape_wrong(h.size, h.n, h.m, h.s) {
+        return ChunkMeasured::Refused(Reason::Lent);
+    }
+    let checked = check_length(h.s, b);
     match checked {
-        Checked::Refused(_) => 0,
-        Checked::Good => 84 + little::read32(b, 28) as usize,
+        Checked::Refused(reason) => ChunkMeasured::Refused(reason),
+        Checked::Good => ChunkMeasured::Length(CHUNK_OUTER + payload_length(b) as usize),
     }
 }
 
@@ -54,46 +110,33 @@ fn check_seal(c: &[u8]) -> Checked
     requires { ⌜ 84 + payloadLength (now c) ≤ length (now c) ⌝ }
     ensures { λ r. ⌜ r ≡ verdict (sealChecks (now (c .entry))) ⌝ }
 {
-    let payload = little::read32(c, 28) as usize;
-    let end = 48 + payload;
+    let payload = payload_length(c) as usize;
+    let end = CHUNK_HEADER + payload;
     let hash = blake3::hash(&c[..end]);
-    let marker = refuse_if(
-        !stands_at(c, 80 + payload, b"/CHK"),
-        Reason::EndMarker,
-        Checked::Good,
-    );
-    refuse_if(!stands_at(c, end, &hash), Reason::ChunkHash, marker)
-}
-
-pub(crate) fn type_for(n: u32, index: u32) -> u32
-    ensures { λ r. ⌜ r ≡ typeFor n index ⌝ }
-{
-    if index < n { 1 } else { 2 }
+    let sealed = refuse_if(Checked::Good, !stands_at(c, end, &hash), Reason::ChunkHash);
+    let ended = stands_at(c, END_MARKER_AT + payload, &END_MARKER);
+    refuse_if(sealed, !ended, Reason::EndMarker)
 }
 
 // 35 to 40.
-fn check_kin(h: Head, c: &[u8]) -> Checked
-    ensures { λ r. ⌜ r ≡ verdict (kinChecks h (now (c .entry))) ⌝ }
+fn check_against_head(h: Head, c: &[u8]) -> Checked
+    ensures { λ r. ⌜ r ≡ verdict (headChecks h (now (c .entry))) ⌝ }
 {
     let uuid = h.uuid;
-    let stranger = !stands_at(c, 4, &uuid);
-    let zeros = [0u8; 14];
-    let used = !stands_at(c, 34, &zeros);
-    let index = little::read32(c, 20);
+    let other_file = !stands_at(c, UUID_AT, &uuid);
+    let index = index_of(c);
     let outside = h.n as u64 + h.m as u64 <= index as u64;
-    let unsuited = little::read32(c, 24) != type_for(h.n, index);
-    let compression = little::byte_at(c, 32) != h.compression;
-    let other = compression | (little::byte_at(c, 33) != h.erasure);
-    let size = refuse_if(
-        little::read32(c, 28) != h.s,
-        Reason::PayloadLength,
-        Checked::Good,
-    );
-    let identifiers = refuse_if(other, Reason::Identifiers, size);
-    let reserved = refuse_if(used, Reason::Reserved, identifiers);
-    let kind = refuse_if(unsuited, Reason::TypeIndex, reserved);
-    let range = refuse_if(outside, Reason::IndexRange, kind);
-    refuse_if(stranger, Reason::OtherFile, range)
+    let other_type = little::read32(c, TYPE_AT) != type_for(h.n, index);
+    let zeros = [0u8; RESERVED];
+    let used = !stands_at(c, RESERVED_AT, &zeros);
+    let compression = little::byte_at(c, COMPRESSION_AT) != h.compression;
+    let erasure = little::byte_at(c, ERASURE_AT) != h.erasure;
+    let file = refuse_if(Checked::Good, other_file, Reason::OtherFile);
+    let range = refuse_if(file, outside, Reason::IndexRange);
+    let kind = refuse_if(range, other_type, Reason::TypeIndex);
+    let reserved = refuse_if(kind, used, Reason::Reserved);
+    let identifiers = refuse_if(reserved, compression | erasure, Reason::Identifiers);
+    refuse_if(identifiers, payload_length(c) != h.s, Reason::PayloadLength)
 }
 
 // The checks in order; a hash is computed only of a chunk that is all there.
@@ -107,13 +150,13 @@ pub(crate) fn check_all(h: Head, c: &[u8]) -> Checked
             let seal = check_seal(c);
             match seal {
                 Checked::Refused(_) => seal,
-                Checked::Good => check_kin(h, c),
+                Checked::Good => check_against_head(h, c),
             }
         }
     }
 }
 
-// Bytes behind a whole chunk are not read. The head of a refused header has N = 0, and is refused by 71.
+// Bytes after a whole chunk are not read. The head of a refused header has N = 0, and is refused by 71.
 pub fn check_chunk(h: Head, c: &[u8]) -> ChunkChecked
     ensures { λ r. ⌜ r ≡ checkChunk h (now (c .entry)) ⌝ }
 {
@@ -123,6 +166,8 @@ pub fn check_chunk(h: Head, c: &[u8]) -> ChunkChecked
     let verdict = check_all(h, c);
     match verdict {
         Checked::Refused(reason) => ChunkChecked::Refused(reason),
-        Checked::Good => { ChunkChecked::Whole(BlockNumber(little::read32(c, 20)), BytePlace(48)) }
+        Checked::Good => {
+            ChunkChecked::Whole(BlockNumber(index_of(c)), BytePlace(CHUNK_HEADER as u32))
+        }
     }
 }

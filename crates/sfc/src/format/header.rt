@@ -9,6 +9,7 @@ use crate::format::limits::is_length_wrong;
 use crate::format::limits::is_mispaired;
 use crate::format::limits::is_unlawful;
 use crate::format::priority::is_priority_wrong;
+use crate::format::text::NAME_ROOM;
 use crate::format::text::name_length;
 use crate::format::text::stands_at;
 ghost use mathlib.Core.Path.{_≡_};
@@ -18,14 +19,68 @@ ghost use lib.ListN.{length};
 ghost use Rattle.sfc.specs.answer.Numbers.{verdict, checked};
 ghost use Rattle.sfc.specs.format.Header.{headOf, blankHead, startChecks, numberChecks, listChecks, regionChecks, trailerChecks, refusedHeader, acceptedHeader, readHeader};
 
+// The preamble: magic and version. H, the region's first field, is the length of what follows it.
+pub(crate) const MAGIC: [u8; 4] = *b"SFC\0";
+
+pub(crate) const MAJOR_AT: usize = 4;
+
+pub(crate) const MINOR_AT: usize = 6;
+
+pub(crate) const REGION_AT: usize = 8;
+
+pub(crate) const LENGTH_AT: usize = REGION_AT;
+
+pub(crate) const AFTER_LENGTH: usize = REGION_AT + 4;
+
+// The fields of a region, by their places in it; the priority list stands after them, and the extension fields after the list.
+pub(crate) const HEADER_UUID_AT: usize = 4;
+
+pub(crate) const SIZE_AT: usize = 20;
+
+pub(crate) const FORMAT_AT: usize = 28;
+
+pub(crate) const NAME_AT: usize = 30;
+
+pub(crate) const HASH_AT: usize = 285;
+
+pub(crate) const N_AT: usize = 317;
+
+pub(crate) const M_AT: usize = 321;
+
+pub(crate) const S_AT: usize = 325;
+
+pub(crate) const ERASURE_AT: usize = 329;
+
+pub(crate) const COMPRESSION_AT: usize = 330;
+
+pub(crate) const FLAGS_AT: usize = 331;
+
+pub(crate) const PRIORITIES_AT: usize = 333;
+
+pub(crate) const LISTS_AT: usize = 335;
+
+// The file's trailer: magic, the region's hash, the time, reserved bytes.
+pub(crate) const TRAILER: usize = 64;
+
+pub(crate) const TRAILER_MAGIC: [u8; 8] = *b"TRLR\0\0\0\0";
+
+pub(crate) const TRAILER_HASH_AT: usize = 8;
+
+pub(crate) const TRAILER_TIME_AT: usize = 40;
+
+pub(crate) const TRAILER_RESERVED_AT: usize = 48;
+
+// What a file has beside the H bytes that its header's length counts, and beside its chunks.
+pub(crate) const HEADER_OUTER: usize = AFTER_LENGTH + TRAILER;
+
 // The fields of a header region, in their order: H is header_length, P is priorities. The name has name_length bytes, and
-// zeros behind them.
+// zeros after them.
 pub struct Head {
     pub header_length: u32,
     pub uuid: [u8; 16],
     pub size: u64,
     pub format: u16,
-    pub name: [u8; 255],
+    pub name: [u8; NAME_ROOM],
     pub name_length: u8,
     pub hash: [u8; 32],
     pub n: u32,
@@ -43,51 +98,53 @@ pub struct HeaderRead {
     pub head: Head,
 }
 
+// 10 to 13, and 10.
 fn check_start(b: &[u8]) -> Checked
     ensures { λ r. ⌜ r ≡ verdict (startChecks (now (b .entry))) ⌝ }
 {
-    let h = little::read32(b, 8);
-    let short = b.len() < h as usize + 76;
-    let other = (little::read16(b, 4) != 0) | (little::read16(b, 6) != 1);
-    let last = refuse_if(short, Reason::HeaderShort, Checked::Good);
-    let length = refuse_if(is_length_wrong(h), Reason::HeaderLength, last);
-    let version = refuse_if(other, Reason::Version, length);
-    let magic = refuse_if(!stands_at(b, 0, b"SFC\0"), Reason::HeaderMagic, version);
-    refuse_if(b.len() < 12, Reason::HeaderShort, magic)
+    let h = little::read32(b, LENGTH_AT);
+    let short = b.len() < h as usize + HEADER_OUTER;
+    let major = little::read16(b, MAJOR_AT) != 0;
+    let minor = little::read16(b, MINOR_AT) != 1;
+    let start = refuse_if(Checked::Good, b.len() < AFTER_LENGTH, Reason::HeaderShort);
+    let magic = refuse_if(start, !stands_at(b, 0, &MAGIC), Reason::HeaderMagic);
+    let version = refuse_if(magic, major | minor, Reason::Version);
+    let length = refuse_if(version, is_length_wrong(h), Reason::HeaderLength);
+    refuse_if(length, short, Reason::HeaderShort)
 }
 
 // 14 to 19 of a region.
 fn check_numbers(r: &[u8]) -> Checked
     ensures { λ v. ⌜ v ≡ verdict (numberChecks (headOf (now (r .entry)))) ⌝ }
 {
-    let n = little::read32(r, 317);
-    let m = little::read32(r, 321);
-    let s = little::read32(r, 325);
-    let erasure = little::byte_at(r, 329);
-    let barred = are_flags_barred(little::read16(r, 331));
-    let flags = refuse_if(barred, Reason::Flags, Checked::Good);
-    let compressed = 0 < little::byte_at(r, 330);
-    let compression = refuse_if(compressed, Reason::CompressionUnknown, flags);
-    let unknown = refuse_if(1 < erasure, Reason::ErasureUnknown, compression);
-    let pairing = refuse_if(is_mispaired(m, erasure), Reason::ErasurePairing, unknown);
-    let house = refuse_if(is_above_house(n, m, s), Reason::HouseLimit, pairing);
-    let against = is_unlawful(little::read64(r, 20), n, m, s);
-    refuse_if(against, Reason::Unlawful, house)
+    let n = little::read32(r, N_AT);
+    let m = little::read32(r, M_AT);
+    let s = little::read32(r, S_AT);
+    let erasure = little::byte_at(r, ERASURE_AT);
+    let against = is_unlawful(little::read64(r, SIZE_AT), n, m, s);
+    let lawful = refuse_if(Checked::Good, against, Reason::Unlawful);
+    let house = refuse_if(lawful, is_above_house(n, m, s), Reason::HouseLimit);
+    let pairing = refuse_if(house, is_mispaired(m, erasure), Reason::ErasurePairing);
+    let known = refuse_if(pairing, 1 < erasure, Reason::ErasureUnknown);
+    let compressed = 0 < little::byte_at(r, COMPRESSION_AT);
+    let plain = refuse_if(known, compressed, Reason::CompressionUnknown);
+    let barred = are_flags_barred(little::read16(r, FLAGS_AT));
+    refuse_if(plain, barred, Reason::Flags)
 }
 
 // 20 and 21 of a region.
 fn check_lists(r: &[u8]) -> Checked
     ensures { λ v. ⌜ v ≡ verdict (listChecks (headOf (now (r .entry))) (now (r .entry))) ⌝ }
 {
-    let n = little::read32(r, 317);
-    let p = little::read16(r, 333);
+    let n = little::read32(r, N_AT);
+    let p = little::read16(r, PRIORITIES_AT);
     if is_priority_wrong(r, n, p) {
         return Checked::Refused(Reason::Priority);
     }
-    let start = 335 + 4 * p as usize;
-    let blocks = n as u64 + little::read32(r, 321) as u64;
-    let wrong = are_fields_wrong(blocks, little::read16(r, 331), &r[start..]);
-    refuse_if(wrong, Reason::Extension, Checked::Good)
+    let start = LISTS_AT + 4 * p as usize;
+    let blocks = n as u64 + little::read32(r, M_AT) as u64;
+    let wrong = are_fields_wrong(blocks, little::read16(r, FLAGS_AT), &r[start..]);
+    refuse_if(Checked::Good, wrong, Reason::Extension)
 }
 
 // The lists, which cost up to N² and H steps, are looked at only where the numbers are within the limits.
@@ -105,11 +162,16 @@ pub(crate) fn check_region(r: &[u8]) -> Checked
 fn check_trailer(r: &[u8], t: &[u8]) -> Checked
     ensures { λ v. ⌜ v ≡ verdict (trailerChecks (now (r .entry)) (now (t .entry))) ⌝ }
 {
-    let hash = blake3::hash(r);
     let zeros = [0u8; 16];
-    let hash_verdict = refuse_if(!stands_at(t, 8, &hash), Reason::TrailerHash, Checked::Good);
-    let shape = !stands_at(t, 0, b"TRLR\0\0\0\0") | !stands_at(t, 48, &zeros);
-    refuse_if(shape, Reason::TrailerShape, hash_verdict)
+    let other = !stands_at(t, 0, &TRAILER_MAGIC);
+    let used = !stands_at(t, TRAILER_RESERVED_AT, &zeros);
+    let shape = refuse_if(Checked::Good, other | used, Reason::TrailerShape);
+    let hash = blake3::hash(r);
+    refuse_if(
+        shape,
+        !stands_at(t, TRAILER_HASH_AT, &hash),
+        Reason::TrailerHash,
+    )
 }
 
 fn check_region_and_trailer(r: &[u8], t: &[u8]) -> Checked
@@ -127,28 +189,28 @@ fn head_of(r: &[u8]) -> Head
     ensures { λ h. ⌜ h ≡ headOf (now (r .entry)) ⌝ }
 {
     let mut uuid = [0u8; 16];
-    bytes::copy(&r[4..20], &mut uuid);
+    bytes::copy(&r[HEADER_UUID_AT..SIZE_AT], &mut uuid);
     let mut hash = [0u8; 32];
-    bytes::copy(&r[285..317], &mut hash);
-    let mut name = [0u8; 255];
-    let length = name_length(&r[30..285]);
-    let end = 30 + length;
-    bytes::copy(&r[30..end], &mut name);
+    bytes::copy(&r[HASH_AT..N_AT], &mut hash);
+    let mut name = [0u8; NAME_ROOM];
+    let length = name_length(&r[NAME_AT..HASH_AT]);
+    let end = NAME_AT + length;
+    bytes::copy(&r[NAME_AT..end], &mut name);
     Head {
         header_length: little::read32(r, 0),
         uuid,
-        size: little::read64(r, 20),
-        format: little::read16(r, 28),
+        size: little::read64(r, SIZE_AT),
+        format: little::read16(r, FORMAT_AT),
         name,
         name_length: length as u8,
         hash,
-        n: little::read32(r, 317),
-        m: little::read32(r, 321),
-        s: little::read32(r, 325),
-        erasure: little::byte_at(r, 329),
-        compression: little::byte_at(r, 330),
-        flags: little::read16(r, 331),
-        priorities: little::read16(r, 333),
+        n: little::read32(r, N_AT),
+        m: little::read32(r, M_AT),
+        s: little::read32(r, S_AT),
+        erasure: little::byte_at(r, ERASURE_AT),
+        compression: little::byte_at(r, COMPRESSION_AT),
+        flags: little::read16(r, FLAGS_AT),
+        priorities: little::read16(r, PRIORITIES_AT),
     }
 }
 
@@ -157,7 +219,7 @@ fn blank_head() -> Head
 {
     let uuid = [0u8; 16];
     let hash = [0u8; 32];
-    let name = [0u8; 255];
+    let name = [0u8; NAME_ROOM];
     Head {
         header_length: 0,
         uuid,
@@ -199,7 +261,7 @@ fn read_region(r: &[u8], t: &[u8]) -> HeaderRead
     }
 }
 
-// The input is preamble, region and, as its last 64 bytes, the trailer; what lies between them is not read.
+// The region stands after the preamble, and the trailer at the input's end; no byte between them is read.
 pub fn read_header(input: &[u8]) -> HeaderRead
     ensures { λ x. ⌜ x ≡ readHeader (now (input .entry)) ⌝ }
 {
@@ -207,9 +269,9 @@ pub fn read_header(input: &[u8]) -> HeaderRead
     match start {
         Checked::Refused(reason) => refused(reason),
         Checked::Good => {
-            let end = 12 + little::read32(input, 8) as usize;
-            let trailer = input.len() - 64;
-            read_region(&input[8..end], &input[trailer..])
+            let end = AFTER_LENGTH + little::read32(input, LENGTH_AT) as usize;
+            let trailer = input.len() - TRAILER;
+            read_region(&input[REGION_AT..end], &input[trailer..])
         }
     }
 }

@@ -1,9 +1,29 @@
 // The draft's limits and the house's, as tests of numbers.
 ghost use mathlib.Core.Path.{_≡_};
-ghost use Rattle.sfc.specs.format.Limits.{wantedBlocks, unlawful, aboveHouse, shapeWrong, lengthWrong};
+ghost use Rattle.sfc.specs.format.Limits.{wantedBlocks, unlawful, aboveHouse, lengthWrong};
 ghost use Rattle.sfc.specs.format.Header.{mispaired, flagsBarred};
 
-// The number of data blocks that a size wants, of blocks that are not empty.
+// The draft's: bytes to a block, blocks of a kind and of both, bytes of content, and H.
+const DRAFT_BLOCK: u32 = 268435456;
+
+const DRAFT_BLOCKS: u32 = 65534;
+
+const DRAFT_BLOCKS_IN_ALL: u64 = 65535;
+
+const DRAFT_SIZE: u64 = 1099511627776;
+
+pub(crate) const LEAST_H: u32 = 331;
+
+pub(crate) const MOST_H: u32 = 65536;
+
+// The house's.
+pub(crate) const MOST_DATA: u32 = 1024;
+
+pub(crate) const MOST_RECOVERY: u32 = 32;
+
+pub(crate) const MOST_BLOCK: u32 = 4096;
+
+// How many data blocks a size wants, of blocks that are not empty.
 pub(crate) fn wanted_blocks(size: u64, s: u32) -> u64
     requires { ⌜ (s ≡ 0 → ⊥) ⌝ }
     ensures { λ r. ⌜ r ≡ wantedBlocks size s ⌝ }
@@ -22,13 +42,13 @@ pub(crate) fn is_unlawful(size: u64, n: u32, m: u32, s: u32) -> bool
         return true;
     }
     (s < 2)
-        | (268435456 < s)
+        | (DRAFT_BLOCK < s)
         | (s % 2 != 0)
         | (n < 1)
-        | (65534 < n)
-        | (65534 < m)
-        | (65535 < n as u64 + m as u64)
-        | (1099511627776 < size)
+        | (DRAFT_BLOCKS < n)
+        | (DRAFT_BLOCKS < m)
+        | (DRAFT_BLOCKS_IN_ALL < n as u64 + m as u64)
+        | (DRAFT_SIZE < size)
         | (n as u64 != wanted_blocks(size, s))
 }
 
@@ -36,21 +56,14 @@ pub(crate) fn is_unlawful(size: u64, n: u32, m: u32, s: u32) -> bool
 pub(crate) fn is_above_house(n: u32, m: u32, s: u32) -> bool
     ensures { λ r. ⌜ r ≡ aboveHouse n m s ⌝ }
 {
-    (1024 < n) | (32 < m) | (4096 < s)
-}
-
-// 71, of the four numbers handed in.
-pub(crate) fn is_shape_wrong(size: u64, n: u32, m: u32, s: u32) -> bool
-    ensures { λ r. ⌜ r ≡ shapeWrong size n m s ⌝ }
-{
-    is_unlawful(size, n, m, s) | is_above_house(n, m, s)
+    (MOST_DATA < n) | (MOST_RECOVERY < m) | (MOST_BLOCK < s)
 }
 
 // 13
 pub(crate) fn is_length_wrong(h: u32) -> bool
     ensures { λ r. ⌜ r ≡ lengthWrong h ⌝ }
 {
-    (h < 331) | (65536 < h)
+    (h < LEAST_H) | (MOST_H < h)
 }
 
 // 16

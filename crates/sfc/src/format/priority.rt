@@ -1,4 +1,5 @@
 // The priority list, in a header region and as the writer is given it.
+use crate::format::header::LISTS_AT;
 ghost use mathlib.Core.Path.{_≡_};
 ghost use Prim.Native.Nat.{_^_, _<_};
 ghost use lib.Dec.{eqb};
@@ -44,7 +45,7 @@ pub(crate) fn is_priority_wrong(r: &[u8], n: u32, p: u16) -> bool
         return true;
     }
     let many = p as usize;
-    (r.len() < 335 + 4 * many) | !are_distinct_below(r, 335, many, n)
+    (r.len() < LISTS_AT + 4 * many) | !are_distinct_below(r, LISTS_AT, many, n)
 }
 
 fn is_among(x: u32, list: &[u32]) -> bool

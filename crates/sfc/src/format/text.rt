@@ -5,6 +5,9 @@ ghost use lib.ListN.{length};
 ghost use Rattle.sfc.specs.format.Bytes.{standsAt, beforeZero};
 ghost use Rattle.sfc.specs.writing.Writer.{nameWrong};
 
+// The longest name.
+pub(crate) const NAME_ROOM: usize = 255;
+
 // Whether `wanted` stands in s from `at` on; a byte past the end counts as 0.
 pub(crate) fn stands_at(s: &[u8], at: usize, wanted: &[u8]) -> bool
     requires { ⌜ at + length (now wanted) < 2 ^ 64 ⌝ }
@@ -40,5 +43,5 @@ pub(crate) fn name_length(field: &[u8]) -> usize
 pub(crate) fn is_name_wrong(name: &[u8]) -> bool
     ensures { λ r. ⌜ r ≡ nameWrong (now (name .entry)) ⌝ }
 {
-    (255 < name.len()) | (name_length(name) < name.len())
+    (NAME_ROOM < name.len()) | (name_length(name) < name.len())
 }

@@ -3,9 +3,9 @@ use crate::answer::places::BlockNumber;
 use crate::answer::places::BytePlace;
 use crate::answer::reason::Reason;
 use crate::format::header::Head;
-use crate::give::hand_out::is_rebuild_wrong;
 use crate::give::hand_out::rebuild_missing;
 use crate::give::prefix::Given;
+use crate::session::lent::is_rebuild_wrong;
 use crate::session::marks::held_count;
 ghost use mathlib.Core.Path.{_≡_};
 ghost use mathlib.Core.Bool.{false, cond, not, _&&_};
@@ -16,7 +16,8 @@ ghost use Rattle.little.specs.Parts.{put};
 ghost use Rattle.cauchy.specs.Decode.{decode};
 ghost use Rattle.sfc.specs.session.Marks.{isHeld, heldCount};
 ghost use Rattle.sfc.specs.inner.Gather.{Rebuildable};
-ghost use Rattle.sfc.specs.give.HandOut.{Lent, Rebuilding};
+ghost use Rattle.sfc.specs.give.HandOut.{Rebuilding};
+ghost use Rattle.sfc.specs.session.Lent.{Lent};
 ghost use Rattle.sfc.specs.give.Block.{blockRequest};
 
 // Past 71, 53 and 52: data block j to the output's front, and whether it could be had.

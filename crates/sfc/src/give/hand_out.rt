@@ -4,7 +4,7 @@ use crate::answer::reason::Reason;
 use crate::format::header::Head;
 use crate::give::gather::content_hash;
 use crate::give::gather::copy_content;
-use crate::session::offer::is_lent_wrong;
+use crate::session::lent::is_rebuild_wrong;
 use cauchy::Answer;
 ghost use mathlib.Core.Path.{_≡_};
 ghost use mathlib.Core.Bool.{true, false, cond, not, _||_};
@@ -17,33 +17,14 @@ ghost use Rattle.cauchy.specs.Decode.{decoded};
 ghost use Rattle.little.specs.Runs.{same};
 ghost use Rattle.sfc.specs.answer.Numbers.{Answered};
 ghost use Rattle.sfc.specs.session.Marks.{heldCount};
-ghost use Rattle.sfc.specs.session.Session.{lentWrong};
+ghost use Rattle.sfc.specs.session.Lent.{lentWrong, Lent, rebuildWrong};
 ghost use Rattle.sfc.specs.inner.Gather.{Rebuildable, Restored, Cut};
-ghost use Rattle.sfc.specs.give.HandOut.{Lent, Rebuilding, rebuildWrong, contentGiven, handOut};
+ghost use Rattle.sfc.specs.give.HandOut.{Rebuilding, contentGiven, handOut};
 
 // Complete is said here and nowhere else, with the place where the content ends.
 pub enum HandedOut {
     Complete(BytePlace),
     Refused(Reason),
-}
-
-// 71, with the lengths of the scratch.
-pub(crate) fn is_rebuild_wrong(
-    size: u64,
-    n: u32,
-    m: u32,
-    s: u32,
-    store: &[u8],
-    marks: &[u8],
-    scratch: usize,
-    numbers: usize,
-) -> bool
-    ensures { λ r. ⌜ r ≡ (lentWrong size n m s (now (store .entry)) (now (marks .entry)) || not (eqb scratch (m * s)) || not (eqb numbers 1024)) ⌝ }
-{
-    if is_lent_wrong(size, n, m, s, store, marks) {
-        return true;
-    }
-    (scratch != m as usize * s as usize) | (numbers != 1024)
 }
 
 // The missing data blocks into scratch, and whether that could be done: with fewer than n held it cannot.

@@ -3,7 +3,7 @@ use crate::answer::places::BlockNumber;
 use crate::answer::places::BytePlace;
 use crate::answer::reason::Reason;
 use crate::format::header::Head;
-use crate::session::offer::is_lent_wrong;
+use crate::session::lent::is_lent_wrong;
 ghost use mathlib.Core.Path.{_≡_};
 ghost use Rattle.sfc.specs.answer.Numbers.{Answered};
 ghost use Rattle.sfc.specs.give.Prefix.{leading, prefixGiven};

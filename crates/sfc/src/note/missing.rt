@@ -1,7 +1,7 @@
 // Which data blocks are unknown: the marks that do not say held, listed where too few do.
 use crate::answer::reason::Reason;
+use crate::session::lent::is_marks_wrong;
 use crate::session::marks::held_count;
-use crate::session::marks::is_marks_wrong;
 ghost use mathlib.Core.Path.{_≡_};
 ghost use Prim.Native.Nat.{_<_, _≤_, _^_};
 ghost use lib.ListN.{length, take};

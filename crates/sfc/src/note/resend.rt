@@ -3,7 +3,7 @@ use crate::answer::reason::Checked;
 use crate::answer::reason::Reason;
 use crate::answer::written::Written;
 use crate::note::missing::open_marks;
-use crate::session::marks::is_marks_wrong;
+use crate::session::lent::is_marks_wrong;
 ghost use mathlib.Core.Path.{_≡_};
 ghost use mathlib.Core.Bool.{true, false};
 ghost use mathlib.Core.List.{_∷_, _++_};

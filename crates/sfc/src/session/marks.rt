@@ -1,39 +1,74 @@
-// The marks of a session: judged, and counted.
-use crate::format::limits::is_shape_wrong;
+// The marks of a session: what each may be, and how many say held or barred.
+use crate::answer::reason::Reason;
+use crate::format::header::Head;
+use crate::session::lent::is_marks_wrong;
 ghost use mathlib.Core.Path.{_≡_};
-ghost use Rattle.sfc.specs.session.Marks.{heldCount, marksFit, marksWrong};
+ghost use Rattle.sfc.specs.session.Marks.{heldCount, barredCount, marksKnown};
+ghost use Rattle.sfc.specs.session.Lent.{countMarks};
 
-// Whether each mark is 0, 1 or 2.
-fn do_marks_fit(marks: &[u8]) -> bool
-    ensures { λ r. ⌜ r ≡ marksFit (now (marks .entry)) ⌝ }
+// An index of which nothing came, or whose block is held, or that met two payloads and is closed.
+pub(crate) const ABSENT: u8 = 0;
+
+pub(crate) const HELD: u8 = 1;
+
+pub(crate) const BARRED: u8 = 2;
+
+const KINDS: u8 = 3;
+
+// How many indices are held, and how many barred.
+pub enum MarksCounted {
+    Counts(usize, usize),
+    Refused(Reason),
+}
+
+// Whether each mark is one of the three.
+pub(crate) fn are_marks_known(marks: &[u8]) -> bool
+    ensures { λ r. ⌜ r ≡ marksKnown (now (marks .entry)) ⌝ }
 {
-    let mut fit = true;
+    let mut known = true;
     let mut i = marks.len();
     while 0 < i {
         i -= 1;
-        fit = (marks[i] < 3) & fit;
+        known = (marks[i] < KINDS) & known;
     }
-    fit
+    known
 }
 
 // V: how many marks say held; a barred index does not count.
-pub fn held_count(marks: &[u8]) -> usize
+pub(crate) fn held_count(marks: &[u8]) -> usize
     ensures { λ r. ⌜ r ≡ heldCount (now (marks .entry)) ⌝ }
 {
     let mut held = 0;
     let mut i = marks.len();
     while 0 < i {
         i -= 1;
-        if marks[i] == 1 {
+        if marks[i] == HELD {
             held += 1;
         }
     }
     held
 }
 
-// 71, of the numbers handed in and the lent marks.
-pub(crate) fn is_marks_wrong(size: u64, n: u32, m: u32, s: u32, marks: &[u8]) -> bool
-    ensures { λ r. ⌜ r ≡ marksWrong size n m s (now (marks .entry)) ⌝ }
+fn barred_count(marks: &[u8]) -> usize
+    ensures { λ r. ⌜ r ≡ barredCount (now (marks .entry)) ⌝ }
 {
-    is_shape_wrong(size, n, m, s) | (marks.len() != n as usize + m as usize) | !do_marks_fit(marks)
+    let mut barred = 0;
+    let mut i = marks.len();
+    while 0 < i {
+        i -= 1;
+        if marks[i] == BARRED {
+            barred += 1;
+        }
+    }
+    barred
+}
+
+// What a session came to, in numbers.
+pub fn count_marks(h: Head, marks: &[u8]) -> MarksCounted
+    ensures { λ r. ⌜ r ≡ countMarks h (now (marks .entry)) ⌝ }
+{
+    if is_marks_wrong(h.size, h.n, h.m, h.s, marks) {
+        return MarksCounted::Refused(Reason::Lent);
+    }
+    MarksCounted::Counts(held_count(marks), barred_count(marks))
 }

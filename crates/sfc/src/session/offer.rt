@@ -3,9 +3,14 @@ use crate::answer::places::BlockNumber;
 use crate::answer::places::BytePlace;
 use crate::answer::reason::Checked;
 use crate::answer::reason::Reason;
+use crate::format::chunk::CHUNK_HEADER;
 use crate::format::chunk::check_all;
+use crate::format::chunk::index_of;
 use crate::format::header::Head;
-use crate::session::marks::is_marks_wrong;
+use crate::session::lent::is_lent_wrong;
+use crate::session::marks::ABSENT;
+use crate::session::marks::BARRED;
+use crate::session::marks::HELD;
 use crate::session::tallies::Tallies;
 use crate::session::tallies::is_full;
 use crate::session::tallies::with_fresh;
@@ -15,7 +20,7 @@ ghost use mathlib.Core.Path.{_≡_};
 ghost use mathlib.Core.Bool.{true};
 ghost use Prim.Native.Nat.{_+_, _*_};
 ghost use lib.ListN.{length};
-ghost use Rattle.sfc.specs.session.Session.{Offered, offered, lentWrong};
+ghost use Rattle.sfc.specs.session.Session.{Session, Offered, sessionOf, offeredOf, offered};
 ghost use Rattle.sfc.specs.inner.Steps.{Stepped, stepped, Welcome};
 
 // What an offer came to: the block, and its place in the store; or the reason of a refusal.
@@ -38,26 +43,16 @@ enum Step {
     Barred,
 }
 
-// 71
-pub(crate) fn is_lent_wrong(size: u64, n: u32, m: u32, s: u32, store: &[u8], marks: &[u8]) -> bool
-    ensures { λ r. ⌜ r ≡ lentWrong size n m s (now (store .entry)) (now (marks .entry)) ⌝ }
-{
-    if is_marks_wrong(size, n, m, s, marks) {
-        return true;
-    }
-    store.len() != (n as usize + m as usize) * s as usize
-}
-
 // One block meets a payload of its length.
 fn offer_block(block: &mut [u8], mark: u8, payload: &[u8]) -> Step
     requires { ⌜ length (now block) ≡ length (now payload) ⌝ }
     ensures { λ r. ⌜ _≡_ {A = Stepped} (record { block = now (block .exit); step = r }) (stepped mark (now (block .entry)) (now (payload .entry))) ⌝ }
 {
-    if mark == 0 {
+    if mark == ABSENT {
         bytes::copy(payload, block);
         return Step::Laid;
     }
-    if mark == 1 {
+    if mark == HELD {
         if little::is_same(block, payload) {
             return Step::Copy;
         }
@@ -84,20 +79,24 @@ fn offer_whole(
     marks: &mut [u8],
     chunk: &[u8],
 ) -> OfferAnswer
-    requires { ⌜ Welcome h (record { store = now store; marks = now marks; tallies = tallies }) (now chunk) ⌝ }
-    ensures { λ r. ⌜ _≡_ {A = Offered} (record { session = record { store = now (store .exit); marks = now (marks .exit); tallies = r .tallies }; verdict = r .verdict }) (offered h (record { store = now (store .entry); marks = now (marks .entry); tallies = tallies }) (now (chunk .entry))) ⌝ }
+    requires { ⌜ Welcome h (sessionOf (now store) (now marks) tallies) (now chunk) ⌝ }
+    ensures { λ r. ⌜ offeredOf (now (store .exit)) (now (marks .exit)) (r .tallies) (r .verdict) ≡ offered h (sessionOf (now (store .entry)) (now (marks .entry)) tallies) (now (chunk .entry)) ⌝ }
 {
-    let index = little::read32(chunk, 20);
+    let index = index_of(chunk);
     let i = index as usize;
     let width = h.s as usize;
     let at = i * width;
     let end = at + width;
-    let payload_end = 48 + width;
-    let step = offer_block(&mut store[at..end], marks[i], &chunk[48..payload_end]);
+    let payload_end = CHUNK_HEADER + width;
+    let step = offer_block(
+        &mut store[at..end],
+        marks[i],
+        &chunk[CHUNK_HEADER..payload_end],
+    );
     let place = at as u32;
     match step {
         Step::Laid => {
-            marks[i] = 1;
+            marks[i] = HELD;
             OfferAnswer {
                 verdict: Verdict::Fresh(BlockNumber(index), BytePlace(place)),
                 tallies: with_fresh(tallies),
@@ -108,7 +107,7 @@ fn offer_whole(
             tallies: with_repeat(tallies),
         },
         Step::Differs => {
-            marks[i] = 2;
+            marks[i] = BARRED;
             refused(Reason::Conflict, with_refusal(tallies, Reason::Conflict))
         }
         Step::Barred => refused(Reason::Barred, with_refusal(tallies, Reason::Barred)),
@@ -123,7 +122,7 @@ pub fn offer(
     marks: &mut [u8],
     chunk: &[u8],
 ) -> OfferAnswer
-    ensures { λ r. ⌜ _≡_ {A = Offered} (record { session = record { store = now (store .exit); marks = now (marks .exit); tallies = r .tallies }; verdict = r .verdict }) (offered h (record { store = now (store .entry); marks = now (marks .entry); tallies = tallies }) (now (chunk .entry))) ⌝ }
+    ensures { λ r. ⌜ offeredOf (now (store .exit)) (now (marks .exit)) (r .tallies) (r .verdict) ≡ offered h (sessionOf (now (store .entry)) (now (marks .entry)) tallies) (now (chunk .entry)) ⌝ }
 {
     if is_lent_wrong(h.size, h.n, h.m, h.s, store, marks) {
         return refused(Reason::Lent, tallies);

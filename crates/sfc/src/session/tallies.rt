@@ -6,11 +6,19 @@ ghost use Prim.Native.Nat.{_+_, _<_, _≤_};
 ghost use Rattle.sfc.specs.answer.Numbers.{numberOf};
 ghost use Rattle.sfc.specs.session.Tallies.{noTallies, sum, total, tallyFull, countedRefusal};
 
+// The numbers that are counted, from the first on.
+const FIRST_COUNTED: usize = 30;
+
+const COUNTED: usize = 13;
+
+// So many offers are counted in all; then 43.
+const MOST_OFFERS: u64 = 4294967295;
+
 // Refusals by number k are counted at k - 30.
 pub struct Tallies {
     pub fresh: u32,
     pub repeat: u32,
-    pub refused: [u32; 13],
+    pub refused: [u32; COUNTED],
 }
 
 impl Tallies {
@@ -18,7 +26,7 @@ impl Tallies {
     pub fn new() -> Tallies
         ensures { λ r. ⌜ r ≡ noTallies ⌝ }
     {
-        let refused = [0u32; 13];
+        let refused = [0u32; COUNTED];
         Tallies {
             fresh: 0,
             repeat: 0,
@@ -27,10 +35,10 @@ impl Tallies {
     }
 }
 
-fn sum_of(counts: [u32; 13]) -> u64
+fn sum_of(counts: [u32; COUNTED]) -> u64
     ensures { λ r. ⌜ (r ≡ sum counts) × (r ≤ 55834574835) ⌝ }
 {
-    let mut left = 13;
+    let mut left = COUNTED;
     let mut total: u64 = 0;
     while 0 < left {
         left -= 1;
@@ -44,7 +52,7 @@ pub(crate) fn is_full(t: Tallies) -> bool
     ensures { λ r. ⌜ r ≡ tallyFull t ⌝ }
 {
     let refused = t.refused;
-    4294967295 <= t.fresh as u64 + t.repeat as u64 + sum_of(refused)
+    MOST_OFFERS <= t.fresh as u64 + t.repeat as u64 + sum_of(refused)
 }
 
 // One refusal more, of those that are counted.
@@ -53,7 +61,7 @@ pub(crate) fn with_refusal(t: Tallies, reason: Reason) -> Tallies
     ensures { λ r. ⌜ r ≡ countedRefusal t (numberOf reason) ⌝ }
 {
     let mut next = t;
-    let at = number_of(reason) as usize - 30;
+    let at = number_of(reason) as usize - FIRST_COUNTED;
     next.refused[at] = next.refused[at] + 1;
     next
 }

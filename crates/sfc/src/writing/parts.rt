@@ -9,7 +9,7 @@ ghost use Rattle.little.specs.Parts.{block};
 ghost use Rattle.cauchy.specs.Code.{joined, recoveryBlock, codeBlock};
 ghost use Rattle.cauchy.specs.Calls.{wrongShape};
 ghost use Rattle.sfc.specs.format.Bytes.{padded};
-ghost use Rattle.sfc.specs.format.Limits.{shapeWrong};
+ghost use Rattle.sfc.specs.session.Lent.{shapeWrong};
 ghost use Rattle.sfc.specs.writing.Writer.{erasureFor, identityBytes, shapeBytes, indexBytes, preamble, trailerBytes, chunkHeader, sealed, chunkBytes};
 
 pub(crate) fn erasure_for(m: u32) -> u8

@@ -4,7 +4,8 @@ use mathlib.Core.Path.{_≡_, sym, ap, _∙_}
 use mathlib.Core.List.{List}
 use borrow.Author.Needs.{needs}
 use Rattle.sfc.specs.answer.Numbers.{numberOf}
-use Rattle.sfc.specs.give.HandOut.{Lent, Rebuilding, handOut}
+use Rattle.sfc.specs.give.HandOut.{Rebuilding, handOut}
+use Rattle.sfc.specs.session.Lent.{Lent}
 use Rattle.sfc.specs.format.Header.{readHeader}
 use Rattle.sfc.specs.declared.give.hand_out.HandedOut.{HandedOut}
 use Rattle.sfc.specs.declared.format.header.HeaderRead.{HeaderRead}

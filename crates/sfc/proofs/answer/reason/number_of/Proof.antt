@@ -1,89 +1,12 @@
--- `sfc::answer::reason::number_of` meets its contract, in each arm by what the arm was told. Assumes nothing.
-use mathlib.Core.Path.{_≡_, sym, ap}
-use Rattle.sfc.specs.answer.Numbers.{numberOf}
-use Rattle.sfc.specs.declared.answer.reason.Reason.{Reason}
+-- `sfc::answer::reason::number_of` meets its contract, by the row that the reason has. Assumes nothing.
+use mathlib.Core.Path.{_≡_, sym, ap, _∙_}
 use borrow.Author.Needs.{needs}
+use Rattle.sfc.specs.answer.Numbers.{numberOf}
 use Rattle.sfc.proofs.answer.reason.number_of.Statement.{statement}
 use Rattle.sfc.proofs.answer.reason.number_of.Tie as tie
 
-told : {r s : Reason} → r ≡ s → numberOf s ≡ numberOf r
-told e = sym (ap numberOf e)
+returns : tie.Need-returns
+returns c = let e = c .listed-number .ensures in sym (e .1) ∙ ap numberOf (sym (e .0))
 
 pub number-of-spec : {M : Type 1} → statement M
-number-of-spec =
-    tie.close
-    (tie.spec
-    (λ c. search needs)
-    (λ c. search needs)
-    (λ c. search needs)
-    (λ c. search needs)
-    (λ c. search needs)
-    (λ c. search needs)
-    (λ c. search needs)
-    (λ c. search needs)
-    (λ c. search needs)
-    (λ c. search needs)
-    (λ c. search needs)
-    (λ c. search needs)
-    (λ c. search needs)
-    (λ c. search needs)
-    (λ c. search needs)
-    (λ c. search needs)
-    (λ c. search needs)
-    (λ c. search needs)
-    (λ c. search needs)
-    (λ c. search needs)
-    (λ c. search needs)
-    (λ c. search needs)
-    (λ c. search needs)
-    (λ c. search needs)
-    (λ c. search needs)
-    (λ c. search needs)
-    (λ c. search needs)
-    (λ c. search needs)
-    (λ c. search needs)
-    (λ c. search needs)
-    (λ c. search needs)
-    (λ c. search needs)
-    (λ c. search needs)
-    (λ c. search needs)
-    (λ c. search needs)
-    (λ c. search needs)
-    (λ c. search needs)
-    (λ c. told (c .enum-told .given .1))
-    (λ c. told (c .enum-told2 .given .1))
-    (λ c. told (c .enum-told3 .given .1))
-    (λ c. told (c .enum-told4 .given .1))
-    (λ c. told (c .enum-told5 .given .1))
-    (λ c. told (c .enum-told6 .given .1))
-    (λ c. told (c .enum-told7 .given .1))
-    (λ c. told (c .enum-told8 .given .1))
-    (λ c. told (c .enum-told9 .given .1))
-    (λ c. told (c .enum-told10 .given .1))
-    (λ c. told (c .enum-told11 .given .1))
-    (λ c. told (c .enum-told12 .given .1))
-    (λ c. told (c .enum-told13 .given .1))
-    (λ c. told (c .enum-told14 .given .1))
-    (λ c. told (c .enum-told15 .given .1))
-    (λ c. told (c .enum-told16 .given .1))
-    (λ c. told (c .enum-told17 .given .1))
-    (λ c. told (c .enum-told18 .given .1))
-    (λ c. told (c .enum-told19 .given .1))
-    (λ c. told (c .enum-told20 .given .1))
-    (λ c. told (c .enum-told21 .given .1))
-    (λ c. told (c .enum-told22 .given .1))
-    (λ c. told (c .enum-told23 .given .1))
-    (λ c. told (c .enum-told24 .given .1))
-    (λ c. told (c .enum-told25 .given .1))
-    (λ c. told (c .enum-told26 .given .1))
-    (λ c. told (c .enum-told27 .given .1))
-    (λ c. told (c .enum-told28 .given .1))
-    (λ c. told (c .enum-told29 .given .1))
-    (λ c. told (c .enum-told30 .given .1))
-    (λ c. told (c .enum-told31 .given .1))
-    (λ c. told (c .enum-told32 .given .1))
-    (λ c. told (c .enum-told33 .given .1))
-    (λ c. told (c .enum-told34 .given .1))
-    (λ c. told (c .enum-told35 .given .1))
-    (λ c. told (c .enum-told36 .given .1))
-    (λ c. told (c .enum-told37 .given .1)))
+number-of-spec = tie.close (tie.spec (λ c κs. search needs) returns)

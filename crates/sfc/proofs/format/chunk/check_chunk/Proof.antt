@@ -1,6 +1,7 @@
 -- `sfc::format::chunk::check_chunk` meets its contract: 71, the verdict of all other checks, and for a whole chunk its index. Assumes nothing.
 use mathlib.Core.Path.{sym, _∙_}
-use Rattle.sfc.specs.format.Chunk.{chunkChecks, checkChunk, number, place, indexOf}
+use Rattle.sfc.specs.format.Chunk.{chunkChecks, checkChunk, indexOf}
+use Rattle.sfc.specs.answer.Places.{number, place}
 use Rattle.sfc.specs.declared.format.chunk.ChunkChecked.the-variants.{Whole, Refused}
 use Rattle.sfc.proofs.answer.CheckLaws.{good-all, refused-all}
 use borrow.Author.Needs.{needs}
@@ -23,7 +24,7 @@ returns-3 : tie.Need-returns-3
 unfolding checkChunk
 returns-3 c =
     let a = c .before .before .before .before .before .before .before .args in
-    rw (c .read32 .ensures, sym (c .before .before .before .before .before .is-shape-wrong .ensures) ∙ c .before .before .before .before .if1 .left)
+    rw (c .index-of .ensures, sym (c .before .before .before .before .before .is-shape-wrong .ensures) ∙ c .before .before .before .before .if1 .left)
     (sym (good-all Refused (chunkChecks (a .h) (a .c .now)) (Whole (number (indexOf (a .c .now))) (place 48))
     (sym (c .before .before .before .check-all .ensures) ∙ c .before .enum-told .given .1)))
 

@@ -1,13 +1,14 @@
--- `sfc::format::chunk::check_seal` meets its contract: the nest of checks is the list, in its order. Assumes nothing.
+-- `sfc::format::chunk::check_seal` meets its contract: the checks, from the first down, are the list in its order. Assumes nothing.
 use mathlib.Core.Path.{sym}
 use native.Mathlib.Omega.{arith}
 use lib.Seq.{length-take-le}
 use borrow.Author.Needs.{needs}
 use Rattle.sfc.proofs.format.chunk.check_seal.Statement.{statement}
 use Rattle.sfc.proofs.format.chunk.check_seal.Tie as tie
+use Rattle.sfc.proofs.answer.CheckLaws.{Then·simp}
 
 slice-aggregate-hash : tie.Need-slice-aggregate-hash
-slice-aggregate-hash c = sym (length-take-le _ (c .before .before .before .args .c .now) (omega (arith, c .before .read32 .ensures, c .before .before .before .pre)))
+slice-aggregate-hash c = sym (length-take-le _ (c .before .before .before .args .c .now) (omega (arith, c .before .payload-length .ensures, c .before .before .before .pre)))
 
 returns : tie.Need-returns
 returns c = simp (
@@ -16,7 +17,8 @@ returns c = simp (
   c .before .before .before .refuse-if .ensures,
   c .before .before .before .before .stands-at .ensures,
   c .before .before .before .before .before .before .hash .ensures,
-  c .before .before .before .before .before .before .before .before .read32 .ensures,
+  c .before .before .before .before .before .before .before .before .payload-length .ensures,
+  Then·simp,
 )
 
 pub check-seal-spec : {M : Type 1} → statement M
@@ -29,9 +31,9 @@ check-seal-spec =
     slice-aggregate-hash
     (λ c κs. search needs)
     (λ c. search needs)
+    (λ c κs. search needs)
+    (λ c κs. search needs)
     (λ c. search needs)
-    (λ c κs. search needs)
-    (λ c κs. search needs)
     (λ c. search needs)
     (λ c κs. search needs)
     (λ c κs. search needs)

@@ -1,8 +1,8 @@
--- `sfc::format::limits::is_shape_wrong` computes its definition. Assumes nothing.
-use Rattle.sfc.specs.format.Limits.{shapeWrong}
+-- `sfc::session::lent::is_shape_wrong` computes its definition. Assumes nothing.
+use Rattle.sfc.specs.session.Lent.{shapeWrong}
 use borrow.Author.Needs.{needs}
-use Rattle.sfc.proofs.format.limits.is_shape_wrong.Statement.{statement}
-use Rattle.sfc.proofs.format.limits.is_shape_wrong.Tie as tie
+use Rattle.sfc.proofs.session.lent.is_shape_wrong.Statement.{statement}
+use Rattle.sfc.proofs.session.lent.is_shape_wrong.Tie as tie
 
 returns : tie.Need-returns
 unfolding shapeWrong

@@ -1,9 +1,9 @@
--- `sfc::give::hand_out::is_rebuild_wrong` meets its contract. Assumes nothing.
+-- `sfc::session::lent::is_rebuild_wrong` meets its contract. Assumes nothing.
 use mathlib.Core.Path.{sym, _∙_}
 use Rattle.sfc.proofs.give.HandOutLaws.{wrong-first, wrong-rest, scratch-small}
 use borrow.Author.Needs.{needs}
-use Rattle.sfc.proofs.give.hand_out.is_rebuild_wrong.Statement.{statement}
-use Rattle.sfc.proofs.give.hand_out.is_rebuild_wrong.Tie as tie
+use Rattle.sfc.proofs.session.lent.is_rebuild_wrong.Statement.{statement}
+use Rattle.sfc.proofs.session.lent.is_rebuild_wrong.Tie as tie
 
 returns : tie.Need-returns
 returns c = wrong-first _ _ _ (sym (c .before .is-lent-wrong .ensures) ∙ c .if1 .taken)
