@@ -14,8 +14,11 @@ pub(crate) const LENGTH_AT: usize = PREAMBLE;
 
 pub(crate) const REGION_AT: usize = PREAMBLE;
 
-// Places in the header region, H's own four bytes counted.
-pub(crate) const UUID_AT: usize = 4;
+// H's own bytes, which it does not count.
+pub(crate) const LENGTH_FIELD: usize = 4;
+
+// Places in the header region, H's own bytes counted.
+pub(crate) const UUID_AT: usize = LENGTH_FIELD;
 
 pub(crate) const SIZE_AT: usize = 20;
 
@@ -42,7 +45,7 @@ pub(crate) const PRIORITIES_AT: usize = 333;
 // Bytes of a region before its priority list.
 pub(crate) const HEADER_BEFORE_LISTS: usize = 335;
 
-// H counts the region without H's own four bytes: with empty lists, and at most.
+// H with empty lists, and at most.
 pub(crate) const LEAST_H: u32 = 331;
 
 pub(crate) const MOST_H: u32 = 65536;
