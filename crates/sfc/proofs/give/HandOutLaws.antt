@@ -31,8 +31,8 @@ use Rattle.sfc.specs.declared.format.header.Head.{Head}
 use Rattle.sfc.specs.declared.answer.reason.Reason.the-variants.{Few, ContentHash, OutputShort, NoDataBlock, Lent as LentWrong}
 use Rattle.sfc.specs.declared.give.hand_out.HandedOut.{HandedOut}
 use Rattle.sfc.specs.declared.give.hand_out.HandedOut.the-variants.{Complete, Refused}
-use Rattle.sfc.specs.declared.give.prefix.Given.{Given}
-use Rattle.sfc.specs.declared.give.prefix.Given.the-variants.{Unverified, Refused as RefusedGiven}
+use Rattle.sfc.specs.declared.give.block.BlockGiven.{BlockGiven}
+use Rattle.sfc.specs.declared.give.block.BlockGiven.the-variants.{Unverified, Refused as NoBlock}
 use Rattle.sfc.proofs.format.LimitLaws.{wanted-holds}
 use Rattle.sfc.proofs.session.MarkLaws.{RightShape}
 use Rattle.sfc.proofs.session.SessionLaws.{RightLent, right-lent}
@@ -233,37 +233,37 @@ handed-given h store marks l e f answer scratch numbers output g es en =
 -- ---- the block request
 
 pub blocked-wrong : (h : Head) (store marks : List ℕ) (j : ℕ) (l : Lent) → rebuildWrong h store marks l ≡ true
-    → _≡_ {A = Rebuilding Given} (record { answer = RefusedGiven LentWrong; lent = l }) (blockRequest h store marks j l)
+    → _≡_ {A = Rebuilding BlockGiven} (record { answer = NoBlock LentWrong; lent = l }) (blockRequest h store marks j l)
 unfolding blockRequest lentAfter
 blocked-wrong h store marks j l e = rw e
 
 pub blocked-none : (h : Head) (store marks : List ℕ) (j : ℕ) (l : Lent) → rebuildWrong h store marks l ≡ false → leb (h .n) j ≡ true
-    → _≡_ {A = Rebuilding Given} (record { answer = RefusedGiven NoDataBlock; lent = l }) (blockRequest h store marks j l)
+    → _≡_ {A = Rebuilding BlockGiven} (record { answer = NoBlock NoDataBlock; lent = l }) (blockRequest h store marks j l)
 unfolding blockRequest lentAfter
 blocked-none h store marks j l e f = rw (e, f)
 
 pub blocked-short : (h : Head) (store marks : List ℕ) (j : ℕ) (l : Lent) → rebuildWrong h store marks l ≡ false → leb (h .n) j ≡ false → ltb (length (l .output)) (h .s) ≡ true
-    → _≡_ {A = Rebuilding Given} (record { answer = RefusedGiven OutputShort; lent = l }) (blockRequest h store marks j l)
+    → _≡_ {A = Rebuilding BlockGiven} (record { answer = NoBlock OutputShort; lent = l }) (blockRequest h store marks j l)
 unfolding blockRequest lentAfter
 blocked-short h store marks j l e f g = rw (e, f, g)
 
 module _ (h : Head) (store marks : List ℕ) (j : ℕ) (l : Lent) (right : rebuildWrong h store marks l ≡ false) (inside : leb (h .n) j ≡ false) (room : ltb (length (l .output)) (h .s) ≡ false)
     (scratch numbers output : List ℕ) (es : scratch ≡ zeros (length (l .scratch))) (en : numbers ≡ zeros (length (l .numbers))) where
   with-test : (t : Bool) → (ltb (heldCount marks) (h .n) && not (isHeld (getD marks j 0))) ≡ t → output ≡ cond (not t) (put (l .output) 0 (decode (h .n) (h .m) (h .s) marks store j)) (l .output)
-      → _≡_ {A = Rebuilding Given} (record { answer = cond t (RefusedGiven Few) (Unverified (number j) (place (j * h .s))); lent = record { scratch = scratch; numbers = numbers; output = output } }) (blockRequest h store marks j l)
+      → _≡_ {A = Rebuilding BlockGiven} (record { answer = cond t (NoBlock Few) (Unverified (number j) (place (j * h .s))); lent = record { scratch = scratch; numbers = numbers; output = output } }) (blockRequest h store marks j l)
   unfolding blockRequest lentAfter
-  with-test true e g = rw (right, inside, room, e) (λ i. record { answer = RefusedGiven Few; lent = record { scratch = es i; numbers = en i; output = g i } })
+  with-test true e g = rw (right, inside, room, e) (λ i. record { answer = NoBlock Few; lent = record { scratch = es i; numbers = en i; output = g i } })
   with-test false e g = rw (right, inside, room, e) (λ i. record { answer = Unverified (number j) (place (j * h .s)); lent = record { scratch = es i; numbers = en i; output = g i } })
 
   pub blocked-few : (r : Bool) → not r ≡ true → r ≡ not (ltb (heldCount marks) (h .n) && not (isHeld (getD marks j 0)))
       → output ≡ cond r (put (l .output) 0 (decode (h .n) (h .m) (h .s) marks store j)) (l .output)
-      → _≡_ {A = Rebuilding Given} (record { answer = RefusedGiven Few; lent = record { scratch = scratch; numbers = numbers; output = output } }) (blockRequest h store marks j l)
+      → _≡_ {A = Rebuilding BlockGiven} (record { answer = NoBlock Few; lent = record { scratch = scratch; numbers = numbers; output = output } }) (blockRequest h store marks j l)
   blocked-few true p e g = absurd (false≢true p)
   blocked-few false p e g = with-test true (few-told false _ p e) g
 
   pub blocked-given : (r : Bool) → not r ≡ false → r ≡ not (ltb (heldCount marks) (h .n) && not (isHeld (getD marks j 0)))
       → output ≡ cond r (put (l .output) 0 (decode (h .n) (h .m) (h .s) marks store j)) (l .output)
-      → _≡_ {A = Rebuilding Given} (record { answer = Unverified (number j) (place (j * h .s)); lent = record { scratch = scratch; numbers = numbers; output = output } }) (blockRequest h store marks j l)
+      → _≡_ {A = Rebuilding BlockGiven} (record { answer = Unverified (number j) (place (j * h .s)); lent = record { scratch = scratch; numbers = numbers; output = output } }) (blockRequest h store marks j l)
   blocked-given true p e g = with-test false (enough-told true _ p e) g
   blocked-given false p e g = absurd (true≢false p)
 

@@ -26,7 +26,7 @@ use Rattle.sfc.specs.give.Block.{blockGiven, blockLent, blockChecks, blo
 use Rattle.sfc.specs.demand.Demand3.{SameHeld}
 use Rattle.sfc.specs.declared.format.header.Head.{Head}
 use Rattle.sfc.specs.declared.answer.reason.Reason.{Reason}
-use Rattle.sfc.specs.declared.give.prefix.Given.the-variants.{Unverified, Refused}
+use Rattle.sfc.specs.declared.give.block.BlockGiven.the-variants.{Unverified, Refused}
 use Rattle.sfc.proofs.answer.CheckLaws.{Passed}
 use Rattle.sfc.proofs.session.SessionLaws.{right-lent}
 use Rattle.sfc.proofs.session.HeldLaws.{held-holding, decode-held}

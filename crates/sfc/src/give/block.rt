@@ -5,7 +5,6 @@ use crate::answer::reason::Reason;
 use crate::format::header::Head;
 use crate::give::hand_out::is_rebuild_wrong;
 use crate::give::hand_out::rebuild_missing;
-use crate::give::prefix::Given;
 use crate::session::marks::held_count;
 ghost use mathlib.Core.Path.{_≡_};
 ghost use mathlib.Core.Bool.{false, cond, not, _&&_};
@@ -18,6 +17,12 @@ ghost use Rattle.sfc.specs.session.Marks.{isHeld, heldCount};
 ghost use Rattle.sfc.specs.inner.Gather.{Rebuildable};
 ghost use Rattle.sfc.specs.give.HandOut.{Lent, Rebuilding};
 ghost use Rattle.sfc.specs.give.Block.{blockRequest};
+
+// The block asked for, and the place of its first byte in the content. It is unverified, whatever else is known.
+pub enum BlockGiven {
+    Unverified(BlockNumber, BytePlace),
+    Refused(Reason),
+}
 
 // Past 71, 53 and 52: data block j to the output's front, and whether it could be had.
 fn give_block(
@@ -61,8 +66,8 @@ pub fn block(
     scratch: &mut [u8],
     numbers: &mut [u16],
     out: &mut [u8],
-) -> Given
-    ensures { λ r. ⌜ _≡_ {A = Rebuilding Given} (record { answer = r; lent = record { scratch = now (scratch .exit); numbers = now (numbers .exit); output = now (out .exit) } }) (blockRequest h (now (store .entry)) (now (marks .entry)) (number .0) (record { scratch = now (scratch .entry); numbers = now (numbers .entry); output = now (out .entry) })) ⌝ }
+) -> BlockGiven
+    ensures { λ r. ⌜ _≡_ {A = Rebuilding BlockGiven} (record { answer = r; lent = record { scratch = now (scratch .exit); numbers = now (numbers .exit); output = now (out .exit) } }) (blockRequest h (now (store .entry)) (now (marks .entry)) (number .0) (record { scratch = now (scratch .entry); numbers = now (numbers .entry); output = now (out .entry) })) ⌝ }
 {
     if is_rebuild_wrong(
         h.size,
@@ -74,20 +79,20 @@ pub fn block(
         scratch.len(),
         numbers.len(),
     ) {
-        return Given::Refused(Reason::Lent);
+        return BlockGiven::Refused(Reason::Lent);
     }
     let j = number.0;
     if h.n <= j {
-        return Given::Refused(Reason::NoDataBlock);
+        return BlockGiven::Refused(Reason::NoDataBlock);
     }
     if out.len() < h.s as usize {
-        return Given::Refused(Reason::OutputShort);
+        return BlockGiven::Refused(Reason::OutputShort);
     }
     let given = give_block(j, h.n, h.m, h.s, store, marks, scratch, numbers, out);
     little::clear8(scratch);
     little::clear16(numbers);
     if !given {
-        return Given::Refused(Reason::Few);
+        return BlockGiven::Refused(Reason::Few);
     }
-    Given::Unverified(BlockNumber(j), BytePlace(j * h.s))
+    BlockGiven::Unverified(BlockNumber(j), BytePlace(j * h.s))
 }
