@@ -4,7 +4,7 @@ use crate::answer::places::BytePlace;
 use crate::answer::reason::Reason;
 use crate::format::header::Head;
 use crate::give::hand_out::is_rebuild_wrong;
-use crate::give::hand_out::rebuild_missing;
+use crate::give::rebuild::rebuild_missing;
 use crate::session::marks::held_count;
 ghost use mathlib.Core.Path.{_≡_};
 ghost use mathlib.Core.Bool.{false, cond, not, _&&_};

@@ -4,21 +4,20 @@ use crate::answer::reason::Reason;
 use crate::format::header::Head;
 use crate::give::gather::content_hash;
 use crate::give::gather::copy_content;
+use crate::give::rebuild::rebuild_missing;
 use crate::session::offer::is_lent_wrong;
-use cauchy::Answer;
 ghost use mathlib.Core.Path.{_≡_};
-ghost use mathlib.Core.Bool.{true, false, cond, not, _||_};
+ghost use mathlib.Core.Bool.{false, cond, not, _||_};
 ghost use Prim.Native.Nat.{_*_, _≤_};
-ghost use lib.Dec.{ltb, eqb};
+ghost use lib.Dec.{eqb};
 ghost use lib.ListN.{length, take};
 ghost use Rattle.little.specs.Parts.{put};
 ghost use Rattle.blake3.specs.Tree as tree;
 ghost use Rattle.cauchy.specs.Decode.{decoded};
 ghost use Rattle.little.specs.Runs.{same};
 ghost use Rattle.sfc.specs.answer.Numbers.{Answered};
-ghost use Rattle.sfc.specs.session.Marks.{heldCount};
 ghost use Rattle.sfc.specs.session.Session.{lentWrong};
-ghost use Rattle.sfc.specs.inner.Gather.{Rebuildable, Restored, Cut};
+ghost use Rattle.sfc.specs.inner.Gather.{Restored, Cut};
 ghost use Rattle.sfc.specs.give.HandOut.{Lent, Rebuilding, rebuildWrong, contentGiven, handOut};
 
 // Complete is said here and nowhere else, with the place where the content ends.
@@ -44,35 +43,6 @@ pub(crate) fn is_rebuild_wrong(
         return true;
     }
     (scratch != m as usize * s as usize) | (numbers != 1024)
-}
-
-// The missing data blocks into scratch, and whether that could be done: with fewer than n held it cannot.
-pub(crate) fn rebuild_missing(
-    n: u32,
-    m: u32,
-    s: u32,
-    store: &[u8],
-    marks: &[u8],
-    scratch: &mut [u8],
-    numbers: &mut [u16],
-) -> bool
-    requires { ⌜ Rebuildable n m s (now store) (now marks) (now scratch) (now numbers) ⌝ }
-    ensures { λ r. ⌜ (r ≡ not (ltb (heldCount (now (marks .entry))) n)) × (r ≡ true → Restored n m s (now (marks .entry)) (now (store .entry)) (now (scratch .exit))) × (length (now (scratch .exit)) ≡ length (now (scratch .entry))) × (length (now (numbers .exit)) ≡ length (now (numbers .entry))) ⌝ }
-{
-    let rebuilt = cauchy::rebuild_all(
-        n as usize,
-        m as usize,
-        s as usize,
-        marks,
-        store,
-        scratch,
-        numbers,
-    );
-    match rebuilt {
-        Answer::Done => true,
-        Answer::TooFew => false,
-        Answer::BadShape => false,
-    }
 }
 
 // The content, once its hash is known to be the one given.

@@ -5,7 +5,8 @@ use borrow.Author.Tests.{lt-ltb, le-ltb, le-leb, lt-leb}
 use lib.ListN.{length}
 use Rattle.little.proofs.PartLaws.{block-inside}
 use Rattle.little.specs.Runs.{zeros}
-use Rattle.sfc.proofs.give.HandOutLaws.{rebuild-told, right-rebuild, cut-right, blocked-wrong, blocked-none, blocked-short, blocked-few, blocked-given}
+use Rattle.sfc.proofs.give.BlockLaws.{blocked-wrong, blocked-none, blocked-short, blocked-few, blocked-given}
+use Rattle.sfc.proofs.give.RebuildLaws.{rebuild-told, right-rebuild, cut-right}
 use borrow.Author.Needs.{needs}
 use Rattle.sfc.proofs.give.block.block.Statement.{statement}
 use Rattle.sfc.proofs.give.block.block.Tie as tie

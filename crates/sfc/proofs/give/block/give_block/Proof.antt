@@ -5,7 +5,7 @@ use mathlib.Core.Path.{refl, sym, _∙_, ap}
 use native.Mathlib.Omega.{arith}
 use lib.Seq.{length-take-le}
 use Rattle.little.proofs.ListLaws.{cut-long}
-use Rattle.sfc.proofs.give.HandOutLaws.{held-in, held-given, lost-in, lost-long, lost-given, had-lost, rank-rest}
+use Rattle.sfc.proofs.give.BlockLaws.{held-in, held-given, lost-in, lost-long, lost-given, had-lost, rank-rest}
 use borrow.Author.Needs.{needs}
 use Rattle.sfc.proofs.give.block.give_block.Statement.{statement}
 use Rattle.sfc.proofs.give.block.give_block.Tie as tie

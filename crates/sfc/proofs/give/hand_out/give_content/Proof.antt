@@ -1,6 +1,7 @@
 -- `sfc::give::hand_out::give_content` meets its contract, by its three answers. Assumes nothing.
 use borrow.Author.Tests.{not-false}
-use Rattle.sfc.proofs.give.HandOutLaws.{right-rebuild, cut-right, size-small, few-told, enough-told, given-few, given-not, given-all}
+use Rattle.sfc.proofs.give.HandOutLaws.{size-small, given-few, given-not, given-all}
+use Rattle.sfc.proofs.give.RebuildLaws.{right-rebuild, cut-right, few-told, enough-told}
 use borrow.Author.Needs.{needs}
 use Rattle.sfc.proofs.give.hand_out.give_content.Statement.{statement}
 use Rattle.sfc.proofs.give.hand_out.give_content.Tie as tie

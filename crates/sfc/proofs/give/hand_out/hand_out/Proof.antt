@@ -4,7 +4,8 @@ use native.Mathlib.Omega.{arith}
 use borrow.Author.Tests.{lt-ltb, le-ltb}
 use lib.ListN.{length}
 use Rattle.little.specs.Runs.{zeros}
-use Rattle.sfc.proofs.give.HandOutLaws.{rebuild-told, handed-wrong, handed-short, handed-given}
+use Rattle.sfc.proofs.give.HandOutLaws.{handed-wrong, handed-short, handed-given}
+use Rattle.sfc.proofs.give.RebuildLaws.{rebuild-told}
 use borrow.Author.Needs.{needs}
 use Rattle.sfc.proofs.give.hand_out.hand_out.Statement.{statement}
 use Rattle.sfc.proofs.give.hand_out.hand_out.Tie as tie

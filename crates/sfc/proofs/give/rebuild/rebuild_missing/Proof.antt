@@ -1,9 +1,9 @@
--- `sfc::give::hand_out::rebuild_missing` meets its contract, by the three answers of the code's call. Assumes nothing.
+-- `sfc::give::rebuild::rebuild_missing` meets its contract, by the three answers of the code's call. Assumes nothing.
 use mathlib.Core.Path.{ap}
-use Rattle.sfc.proofs.give.HandOutLaws.{isDone, rebuilt-done, rebuilt-not}
+use Rattle.sfc.proofs.give.RebuildLaws.{isDone, rebuilt-done, rebuilt-not}
 use borrow.Author.Needs.{needs}
-use Rattle.sfc.proofs.give.hand_out.rebuild_missing.Statement.{statement}
-use Rattle.sfc.proofs.give.hand_out.rebuild_missing.Tie as tie
+use Rattle.sfc.proofs.give.rebuild.rebuild_missing.Statement.{statement}
+use Rattle.sfc.proofs.give.rebuild.rebuild_missing.Tie as tie
 
 returns : tie.Need-returns
 returns c = let a = c .before .before .before .before .before .before .before .before .before .before .before .before .before in let q = rebuilt-done (a .args .n) (a .args .m) (a .args .s) (a .args .store .now) (a .args .marks .now) (a .args .scratch .now) (a .args .numbers .now) _ (a .pre) (c .before .before .before .before .before .before .rebuild-all .ensures) (c .enum-told .given .1) (search needs) in (q .0, q .1, search needs, search needs)
