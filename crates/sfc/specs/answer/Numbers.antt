@@ -86,3 +86,6 @@ passes (c ∷ cs) = not (c .0) && passes cs
 pub record Answered (A : Type 0) : Type 0 where
   pub answer : A
   pub output : List ℕ
+
+abbrev pub answered : {A : Type 0} → A → List ℕ → Answered A
+answered answer output = record { answer = answer; output = output }

@@ -24,10 +24,16 @@ pub record Lent : Type 0 where
   pub numbers : List ℕ
   pub output : List ℕ
 
+abbrev pub lentOf : List ℕ → List ℕ → List ℕ → Lent
+lentOf scratch numbers output = record { scratch = scratch; numbers = numbers; output = output }
+
 -- what a call that may rebuild answers, and what is lent holds afterwards
 pub record Rebuilding (A : Type 0) : Type 0 where
   pub answer : A
   pub lent : Lent
+
+abbrev pub rebuilt : {A : Type 0} → A → List ℕ → List ℕ → List ℕ → Rebuilding A
+rebuilt answer scratch numbers output = record { answer = answer; lent = lentOf scratch numbers output }
 
 -- 71, with the scratch: M·S bytes and 1,024 numbers
 unfoldable pub rebuildWrong : Head → List ℕ → List ℕ → Lent → Bool

@@ -7,15 +7,13 @@ use crate::give::hand_out::is_rebuild_wrong;
 use crate::give::rebuild::rebuild_missing;
 use crate::session::marks::held_count;
 ghost use mathlib.Core.Path.{_≡_};
-ghost use mathlib.Core.Bool.{false, cond, not, _&&_};
+ghost use mathlib.Core.Bool.{cond};
 ghost use Prim.Native.Nat.{_≤_, _<_};
-ghost use lib.Dec.{ltb};
-ghost use lib.ListN.{length, getD};
+ghost use lib.ListN.{length};
 ghost use Rattle.little.specs.Parts.{put};
 ghost use Rattle.cauchy.specs.Decode.{decode};
-ghost use Rattle.sfc.specs.session.Marks.{isHeld, heldCount};
-ghost use Rattle.sfc.specs.inner.Gather.{Rebuildable};
-ghost use Rattle.sfc.specs.give.HandOut.{Lent, Rebuilding};
+ghost use Rattle.sfc.specs.inner.Gather.{Rebuildable, canBeHad, SameLengths};
+ghost use Rattle.sfc.specs.give.HandOut.{lentOf, rebuilt};
 ghost use Rattle.sfc.specs.give.Block.{blockRequest};
 
 // The block asked for, and the place of its first byte in the content. It is unverified, whatever else is known.
@@ -37,7 +35,7 @@ fn give_block(
     out: &mut [u8],
 ) -> bool
     requires { ⌜ Rebuildable n m s (now store) (now marks) (now scratch) (now numbers) × (j < n) × (s ≤ length (now out)) ⌝ }
-    ensures { λ r. ⌜ (r ≡ not (ltb (heldCount (now (marks .entry))) n && not (isHeld (getD (now (marks .entry)) j 0)))) × (now (out .exit) ≡ cond r (put (now (out .entry)) 0 (decode n m s (now (marks .entry)) (now (store .entry)) j)) (now (out .entry))) × (length (now (scratch .exit)) ≡ length (now (scratch .entry))) × (length (now (numbers .exit)) ≡ length (now (numbers .entry))) ⌝ }
+    ensures { λ r. ⌜ (r ≡ canBeHad n (now (marks .entry)) j) × (now (out .exit) ≡ cond r (put (now (out .entry)) 0 (decode n m s (now (marks .entry)) (now (store .entry)) j)) (now (out .entry))) × SameLengths (now (scratch .entry)) (now (scratch .exit)) (now (numbers .entry)) (now (numbers .exit)) ⌝ }
 {
     let i = j as usize;
     let width = s as usize;
@@ -67,7 +65,7 @@ pub fn block(
     numbers: &mut [u16],
     out: &mut [u8],
 ) -> BlockGiven
-    ensures { λ r. ⌜ _≡_ {A = Rebuilding BlockGiven} (record { answer = r; lent = record { scratch = now (scratch .exit); numbers = now (numbers .exit); output = now (out .exit) } }) (blockRequest h (now (store .entry)) (now (marks .entry)) (number .0) (record { scratch = now (scratch .entry); numbers = now (numbers .entry); output = now (out .entry) })) ⌝ }
+    ensures { λ r. ⌜ rebuilt r (now (scratch .exit)) (now (numbers .exit)) (now (out .exit)) ≡ blockRequest h (now (store .entry)) (now (marks .entry)) (number .0) (lentOf (now (scratch .entry)) (now (numbers .entry)) (now (out .entry))) ⌝ }
 {
     if is_rebuild_wrong(
         h.size,

@@ -10,15 +10,14 @@ ghost use mathlib.Core.Path.{_≡_};
 ghost use mathlib.Core.Bool.{false, cond, not, _||_};
 ghost use Prim.Native.Nat.{_*_, _≤_};
 ghost use lib.Dec.{eqb};
-ghost use lib.ListN.{length, take};
+ghost use lib.ListN.{length};
 ghost use Rattle.little.specs.Parts.{put};
 ghost use Rattle.blake3.specs.Tree as tree;
-ghost use Rattle.cauchy.specs.Decode.{decoded};
 ghost use Rattle.little.specs.Runs.{same};
-ghost use Rattle.sfc.specs.answer.Numbers.{Answered};
+ghost use Rattle.sfc.specs.answer.Numbers.{answered};
 ghost use Rattle.sfc.specs.session.Session.{lentWrong};
-ghost use Rattle.sfc.specs.inner.Gather.{Restored, Cut};
-ghost use Rattle.sfc.specs.give.HandOut.{Lent, Rebuilding, rebuildWrong, contentGiven, handOut};
+ghost use Rattle.sfc.specs.inner.Gather.{Restored, Cut, contentBytes, SameLengths};
+ghost use Rattle.sfc.specs.give.HandOut.{lentOf, rebuilt, rebuildWrong, contentGiven, handOut};
 
 // Complete is said here and nowhere else, with the place where the content ends.
 pub enum HandedOut {
@@ -58,7 +57,7 @@ fn give_checked(
     out: &mut [u8],
 ) -> bool
     requires { ⌜ Cut size n s × Restored n m s (now marks) (now store) (now scratch) × (size ≤ length (now out)) ⌝ }
-    ensures { λ r. ⌜ (r ≡ same (tree.hash (take size (decoded n m s (now (marks .entry)) (now (store .entry))))) hash) × (now (out .exit) ≡ cond r (put (now (out .entry)) 0 (take size (decoded n m s (now (marks .entry)) (now (store .entry))))) (now (out .entry))) ⌝ }
+    ensures { λ r. ⌜ (r ≡ same (tree.hash (contentBytes size n m s (now (marks .entry)) (now (store .entry)))) hash) × (now (out .exit) ≡ cond r (put (now (out .entry)) 0 (contentBytes size n m s (now (marks .entry)) (now (store .entry)))) (now (out .entry))) ⌝ }
 {
     let found = content_hash(size, n, m, s, marks, store, scratch);
     if !little::is_same(&found, &hash) {
@@ -77,8 +76,8 @@ fn give_content(
     numbers: &mut [u16],
     out: &mut [u8],
 ) -> HandedOut
-    requires { ⌜ (rebuildWrong h (now store) (now marks) (record { scratch = now scratch; numbers = now numbers; output = now out }) ≡ false) × (h .size ≤ length (now out)) ⌝ }
-    ensures { λ r. ⌜ _≡_ {A = Answered HandedOut} (record { answer = r; output = now (out .exit) }) (contentGiven h (now (store .entry)) (now (marks .entry)) (now (out .entry))) × (length (now (scratch .exit)) ≡ length (now (scratch .entry))) × (length (now (numbers .exit)) ≡ length (now (numbers .entry))) ⌝ }
+    requires { ⌜ (rebuildWrong h (now store) (now marks) (lentOf (now scratch) (now numbers) (now out)) ≡ false) × (h .size ≤ length (now out)) ⌝ }
+    ensures { λ r. ⌜ (answered r (now (out .exit)) ≡ contentGiven h (now (store .entry)) (now (marks .entry)) (now (out .entry))) × SameLengths (now (scratch .entry)) (now (scratch .exit)) (now (numbers .entry)) (now (numbers .exit)) ⌝ }
 {
     if !rebuild_missing(h.n, h.m, h.s, store, marks, scratch, numbers) {
         return HandedOut::Refused(Reason::Few);
@@ -103,7 +102,7 @@ pub fn hand_out(
     numbers: &mut [u16],
     out: &mut [u8],
 ) -> HandedOut
-    ensures { λ r. ⌜ _≡_ {A = Rebuilding HandedOut} (record { answer = r; lent = record { scratch = now (scratch .exit); numbers = now (numbers .exit); output = now (out .exit) } }) (handOut h (now (store .entry)) (now (marks .entry)) (record { scratch = now (scratch .entry); numbers = now (numbers .entry); output = now (out .entry) })) ⌝ }
+    ensures { λ r. ⌜ rebuilt r (now (scratch .exit)) (now (numbers .exit)) (now (out .exit)) ≡ handOut h (now (store .entry)) (now (marks .entry)) (lentOf (now (scratch .entry)) (now (numbers .entry)) (now (out .entry))) ⌝ }
 {
     if is_rebuild_wrong(
         h.size,

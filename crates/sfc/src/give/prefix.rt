@@ -5,7 +5,7 @@ use crate::answer::reason::Reason;
 use crate::format::header::Head;
 use crate::session::offer::is_lent_wrong;
 ghost use mathlib.Core.Path.{_≡_};
-ghost use Rattle.sfc.specs.answer.Numbers.{Answered};
+ghost use Rattle.sfc.specs.answer.Numbers.{answered};
 ghost use Rattle.sfc.specs.give.Prefix.{leading, prefixGiven};
 
 // How many data blocks are given, which is also the index of the first that is not (N where all are), and how many bytes that
@@ -34,7 +34,7 @@ fn count_leading(marks: &[u8]) -> usize
 
 // Only 71 and 52 refuse it. The output past the prefix stays as it was.
 pub fn prefix(h: Head, store: &[u8], marks: &[u8], out: &mut [u8]) -> PrefixGiven
-    ensures { λ r. ⌜ _≡_ {A = Answered PrefixGiven} (record { answer = r; output = now (out .exit) }) (prefixGiven h (now (store .entry)) (now (marks .entry)) (now (out .entry))) ⌝ }
+    ensures { λ r. ⌜ answered r (now (out .exit)) ≡ prefixGiven h (now (store .entry)) (now (marks .entry)) (now (out .entry)) ⌝ }
 {
     if is_lent_wrong(h.size, h.n, h.m, h.s, store, marks) {
         return PrefixGiven::Refused(Reason::Lent);

@@ -1,11 +1,8 @@
 // The missing data blocks, rebuilt into scratch for the hand-out and the block request.
 use cauchy::Answer;
 ghost use mathlib.Core.Path.{_≡_};
-ghost use mathlib.Core.Bool.{true, not};
-ghost use lib.Dec.{ltb};
-ghost use lib.ListN.{length};
-ghost use Rattle.sfc.specs.session.Marks.{heldCount};
-ghost use Rattle.sfc.specs.inner.Gather.{Rebuildable, Restored};
+ghost use mathlib.Core.Bool.{true};
+ghost use Rattle.sfc.specs.inner.Gather.{Rebuildable, Restored, enoughHeld, SameLengths};
 
 // Whether it could be done: with fewer than n held it cannot.
 pub(crate) fn rebuild_missing(
@@ -18,7 +15,7 @@ pub(crate) fn rebuild_missing(
     numbers: &mut [u16],
 ) -> bool
     requires { ⌜ Rebuildable n m s (now store) (now marks) (now scratch) (now numbers) ⌝ }
-    ensures { λ r. ⌜ (r ≡ not (ltb (heldCount (now (marks .entry))) n)) × (r ≡ true → Restored n m s (now (marks .entry)) (now (store .entry)) (now (scratch .exit))) × (length (now (scratch .exit)) ≡ length (now (scratch .entry))) × (length (now (numbers .exit)) ≡ length (now (numbers .entry))) ⌝ }
+    ensures { λ r. ⌜ (r ≡ enoughHeld n (now (marks .entry))) × (r ≡ true → Restored n m s (now (marks .entry)) (now (store .entry)) (now (scratch .exit))) × SameLengths (now (scratch .entry)) (now (scratch .exit)) (now (numbers .entry)) (now (numbers .exit)) ⌝ }
 {
     let rebuilt = cauchy::rebuild_all(
         n as usize,

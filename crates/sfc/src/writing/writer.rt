@@ -16,10 +16,9 @@ use crate::writing::parts::put_preamble;
 use crate::writing::parts::put_shape;
 use crate::writing::parts::put_trailer;
 ghost use mathlib.Core.Path.{_≡_};
-ghost use mathlib.Core.Bool.{false};
-ghost use lib.ListN.{length};
-ghost use Rattle.sfc.specs.answer.Numbers.{Answered};
-ghost use Rattle.sfc.specs.writing.Writer.{inputOf, blocks, region, fileOf, inputWrong, writeFile};
+ghost use Rattle.sfc.specs.answer.Numbers.{answered};
+ghost use Rattle.sfc.specs.writing.Writer.{inputOf, region, fileOf, inputWrong, writeFile};
+ghost use Rattle.sfc.specs.inner.Writing.{Ready};
 
 // Limits, in the types of what is held against them here.
 const MOST_BLOCKS: u64 = MOST_DATA as u64;
@@ -87,7 +86,7 @@ fn put_region(
     fields: &[u8],
     r: &mut [u8],
 )
-    requires { ⌜ (inputWrong (inputOf facts (now content) (now name) (now priority) (now fields)) ≡ false) × (n ≡ blocks (inputOf facts (now content) (now name) (now priority) (now fields))) × (length (now r) ≡ length (region (inputOf facts (now content) (now name) (now priority) (now fields)))) ⌝ }
+    requires { ⌜ Ready region (inputOf facts (now content) (now name) (now priority) (now fields)) n (now r) ⌝ }
     ensures { λ _. ⌜ now (r .exit) ≡ region (inputOf facts (now (content .entry)) (now (name .entry)) (now (priority .entry)) (now (fields .entry))) ⌝ }
 {
     let h = r.len() - LENGTH_FIELD;
@@ -127,7 +126,7 @@ fn put_file(
     fields: &[u8],
     out: &mut [u8],
 )
-    requires { ⌜ (inputWrong (inputOf facts (now content) (now name) (now priority) (now fields)) ≡ false) × (n ≡ blocks (inputOf facts (now content) (now name) (now priority) (now fields))) × (length (now out) ≡ length (fileOf (inputOf facts (now content) (now name) (now priority) (now fields)))) ⌝ }
+    requires { ⌜ Ready fileOf (inputOf facts (now content) (now name) (now priority) (now fields)) n (now out) ⌝ }
     ensures { λ _. ⌜ now (out .exit) ≡ fileOf (inputOf facts (now (content .entry)) (now (name .entry)) (now (priority .entry)) (now (fields .entry))) ⌝ }
 {
     let start = FILE_BEFORE_LISTS + 4 * priority.len() + fields.len();
@@ -157,7 +156,7 @@ pub fn write(
     fields: &[u8],
     out: &mut [u8],
 ) -> Written
-    ensures { λ r. ⌜ _≡_ {A = Answered Written} (record { answer = r; output = now (out .exit) }) (writeFile (inputOf facts (now (content .entry)) (now (name .entry)) (now (priority .entry)) (now (fields .entry))) (now (out .entry))) ⌝ }
+    ensures { λ r. ⌜ answered r (now (out .exit)) ≡ writeFile (inputOf facts (now (content .entry)) (now (name .entry)) (now (priority .entry)) (now (fields .entry))) (now (out .entry)) ⌝ }
 {
     if is_input_wrong(facts, content, name, priority, fields) {
         return Written::Refused(Reason::WriterInput);
