@@ -46,10 +46,10 @@ pub record Leaves (r : Reason) (ks before after : List ℕ) : Type 0 where
   pub number : OneOf r ks
   pub output : after ≡ before
 
--- an answer that ends at place k: behind it the output is as it was
+-- an answer that ends at place k: after it the output is as it was
 pub record Ends (k : ℕ) (before after : List ℕ) : Type 0 where
   pub long : length after ≡ length before
-  pub behind : drop k after ≡ drop k before
+  pub rest : drop k after ≡ drop k before
 
 -- what a refusal leaves of scratch and output: with the numbers ks all is as it was; with others scratch is all zeros
 abbrev pub lentLeft : Reason → List ℕ → Lent → Lent

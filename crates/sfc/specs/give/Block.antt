@@ -28,7 +28,7 @@ blockLent h store marks j l = (rebuildWrong h store marks l, 71) ∷ (leb (h .n)
 abbrev pub blockChecks : Head → List ℕ → List ℕ → ℕ → Lent → List Check
 blockChecks h store marks j l = blockLent h store marks j l ++ ((ltb (heldCount marks) (h .n) && not (isHeld (getD marks j 0)), 50) ∷ [])
 
--- the block's number, and the place of its first byte among the data blocks joined
+-- the block asked for, and the place of its first byte in the content; labelled unverified
 unfoldable pub blockRequest : Head → List ℕ → List ℕ → ℕ → Lent → Rebuilding BlockGiven
 blockRequest h store marks j l = record {
   answer = checked (blockChecks h store marks j l) Refused (Unverified (number j) (place (j * h .s)));

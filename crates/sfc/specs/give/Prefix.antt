@@ -33,7 +33,8 @@ prefixChecks h store marks out =
     ∷ (ltb (length out) (length (prefixOf h store marks)), 52)
     ∷ []
 
--- the count of blocks and the count of bytes, labelled unverified
+-- how many data blocks are given, which is also the index of the first that is not (N where all are), and how many bytes; labelled
+-- unverified
 unfoldable pub prefixGiven : Head → List ℕ → List ℕ → List ℕ → Answered PrefixGiven
 prefixGiven h store marks out = record {
   answer = checked (prefixChecks h store marks out) Refused (Unverified (number (prefixBlocks h marks)) (place (length (prefixOf h store marks))));

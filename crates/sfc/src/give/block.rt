@@ -7,12 +7,10 @@ use crate::give::hand_out::is_rebuild_wrong;
 use crate::give::rebuild::rebuild_missing;
 use crate::session::marks::held_count;
 ghost use mathlib.Core.Path.{_≡_};
-ghost use mathlib.Core.Bool.{cond};
 ghost use Prim.Native.Nat.{_≤_, _<_};
 ghost use lib.ListN.{length};
-ghost use Rattle.little.specs.Parts.{put};
 ghost use Rattle.cauchy.specs.Decode.{decode};
-ghost use Rattle.sfc.specs.inner.Gather.{Rebuildable, canBeHad, SameLengths};
+ghost use Rattle.sfc.specs.inner.Gather.{Rebuildable, canBeHad, SameLengths, putIf};
 ghost use Rattle.sfc.specs.give.HandOut.{lentOf, rebuilt};
 ghost use Rattle.sfc.specs.give.Block.{blockRequest};
 
@@ -35,7 +33,7 @@ fn give_block(
     out: &mut [u8],
 ) -> bool
     requires { ⌜ Rebuildable n m s (now store) (now marks) (now scratch) (now numbers) × (j < n) × (s ≤ length (now out)) ⌝ }
-    ensures { λ r. ⌜ (r ≡ canBeHad n (now (marks .entry)) j) × (now (out .exit) ≡ cond r (put (now (out .entry)) 0 (decode n m s (now (marks .entry)) (now (store .entry)) j)) (now (out .entry))) × SameLengths (now (scratch .entry)) (now (scratch .exit)) (now (numbers .entry)) (now (numbers .exit)) ⌝ }
+    ensures { λ r. ⌜ (r ≡ canBeHad n (now (marks .entry)) j) × (now (out .exit) ≡ putIf r (now (out .entry)) (decode n m s (now (marks .entry)) (now (store .entry)) j)) × SameLengths (now (scratch .entry)) (now (scratch .exit)) (now (numbers .entry)) (now (numbers .exit)) ⌝ }
 {
     let i = j as usize;
     let width = s as usize;

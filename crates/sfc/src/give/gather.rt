@@ -9,7 +9,7 @@ ghost use Rattle.blake3.specs.Tree as tree;
 ghost use Rattle.blake3.specs.Running.{withBytes, mostFed};
 ghost use Rattle.sfc.specs.inner.Gather.{Restored, Cut, contentBytes};
 
-// A running hash with so many bytes more that they cannot be too many.
+// The running hash once `part` is fed to it. Feeding is refused only past 2⁴⁰ bytes, and a content is shorter.
 fn with_part(state: Running, part: &[u8]) -> Running
     requires { ⌜ state .fed + length (now part) ≤ mostFed ⌝ }
     ensures { λ r. ⌜ r ≡ withBytes state (now (part .entry)) ⌝ }

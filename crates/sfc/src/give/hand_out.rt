@@ -7,16 +7,15 @@ use crate::give::gather::copy_content;
 use crate::give::rebuild::rebuild_missing;
 use crate::session::offer::is_lent_wrong;
 ghost use mathlib.Core.Path.{_≡_};
-ghost use mathlib.Core.Bool.{false, cond, not, _||_};
+ghost use mathlib.Core.Bool.{false, not, _||_};
 ghost use Prim.Native.Nat.{_*_, _≤_};
 ghost use lib.Dec.{eqb};
 ghost use lib.ListN.{length};
-ghost use Rattle.little.specs.Parts.{put};
 ghost use Rattle.blake3.specs.Tree as tree;
 ghost use Rattle.little.specs.Runs.{same};
 ghost use Rattle.sfc.specs.answer.Numbers.{answered};
 ghost use Rattle.sfc.specs.session.Session.{lentWrong};
-ghost use Rattle.sfc.specs.inner.Gather.{Restored, Cut, contentBytes, SameLengths};
+ghost use Rattle.sfc.specs.inner.Gather.{Restored, Cut, contentBytes, SameLengths, putIf};
 ghost use Rattle.sfc.specs.give.HandOut.{lentOf, rebuilt, rebuildWrong, contentGiven, handOut};
 
 // Complete is said here and nowhere else, with the place where the content ends.
@@ -57,7 +56,7 @@ fn give_checked(
     out: &mut [u8],
 ) -> bool
     requires { ⌜ Cut size n s × Restored n m s (now marks) (now store) (now scratch) × (size ≤ length (now out)) ⌝ }
-    ensures { λ r. ⌜ (r ≡ same (tree.hash (contentBytes size n m s (now (marks .entry)) (now (store .entry)))) hash) × (now (out .exit) ≡ cond r (put (now (out .entry)) 0 (contentBytes size n m s (now (marks .entry)) (now (store .entry)))) (now (out .entry))) ⌝ }
+    ensures { λ r. ⌜ (r ≡ same (tree.hash (contentBytes size n m s (now (marks .entry)) (now (store .entry)))) hash) × (now (out .exit) ≡ putIf r (now (out .entry)) (contentBytes size n m s (now (marks .entry)) (now (store .entry)))) ⌝ }
 {
     let found = content_hash(size, n, m, s, marks, store, scratch);
     if !little::is_same(&found, &hash) {
@@ -67,7 +66,7 @@ fn give_checked(
     true
 }
 
-// Past 71 and 52.
+// The hand-out once 71 and 52 let it pass.
 fn give_content(
     h: Head,
     store: &[u8],
