@@ -1,6 +1,8 @@
--- Laws of the prefix, of the blocks from where they lie (GatherLaws), of hand-out and block request.
+-- Laws of the prefix, of rebuilding, of the blocks from where they lie (GatherLaws), of hand-out and block request.
 pub mod PrefixLaws
 pub mod GatherLaws
+pub mod RebuildLaws
 pub mod HandOutLaws
+pub mod BlockLaws
 pub mod GivenLaws
 pub mod UnseenLaws

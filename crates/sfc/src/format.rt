@@ -2,6 +2,7 @@
 pub mod chunk;
 pub mod extension;
 pub mod header;
+pub mod layout;
 pub mod limits;
 pub mod lookup;
 pub mod priority;

@@ -3,3 +3,4 @@ pub mod block;
 pub mod gather;
 pub mod hand_out;
 pub mod prefix;
+pub mod rebuild;

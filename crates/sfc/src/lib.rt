@@ -24,10 +24,11 @@ pub use format::header::read_header;
 pub use format::lookup::FieldFound;
 pub use format::lookup::find_field;
 // What is given: the blocks before the first gap, the whole content, one block.
+pub use give::block::BlockGiven;
 pub use give::block::block;
 pub use give::hand_out::HandedOut;
 pub use give::hand_out::hand_out;
-pub use give::prefix::Given;
+pub use give::prefix::PrefixGiven;
 pub use give::prefix::prefix;
 // What is missing, and the note that asks for it.
 pub use note::missing::Listed;

@@ -34,6 +34,12 @@ then-cond false r v test why = refl
 
 pub ruleset Then·simp = (then-good, then-refused, then-cond)
 
+-- six of them, where the tests are long
+pub in-order : (a b c d e f : Bool) (p q r s t u : Reason)
+    → thenCheck (thenCheck (thenCheck (thenCheck (thenCheck (thenCheck Good a p) b q) c r) d s) e t) f u
+    ≡ cond a (Refused p) (cond b (Refused q) (cond c (Refused r) (cond d (Refused s) (cond e (Refused t) (cond f (Refused u) Good)))))
+in-order a b c d e f p q r s t u = simp Then·simp
+
 module _ {A : Type 0} (refuse : Reason → A) where
   -- a good part is passed over
   pub good-then : (cs ds : List Check) (good : A) → verdict cs ≡ Good → checked (cs ++ ds) refuse good ≡ checked ds refuse good

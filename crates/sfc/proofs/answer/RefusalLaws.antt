@@ -1,4 +1,4 @@
--- What is left of an output behind a list of checks, and which part of a list refused. Assumes nothing.
+-- What is left of an output after a list of checks, and which part of a list refused. Assumes nothing.
 use Prim.Native.Nat.{ℕ, _≤_}
 use mathlib.Core.Path.{_≡_, sym, ap, _∙_}
 use mathlib.Core.Bool.{true, false, not}
@@ -26,7 +26,7 @@ leaves cs r ks out new n e = record {
 }
 
 put-ends : (out b : List ℕ) → length b ≤ length out → Ends (length b) out (put out 0 b)
-put-ends out b h = record { long = length-put out 0 b (omega arith); behind = drop-append-seam b (drop (length b) out) }
+put-ends out b h = record { long = length-put out 0 b (omega arith); rest = drop-append-seam b (drop (length b) out) }
 
 pub ends : (cs : List Check) (out b : List ℕ) (k : ℕ) → verdict cs ≡ Good → length b ≡ k → k ≤ length out
     → Ends k out (checked cs (λ (q : Reason). out) (put out 0 b))

@@ -38,8 +38,10 @@ use Rattle.sfc.specs.declared.session.offer.Verdict.{Verdict}
 use Rattle.sfc.specs.declared.session.offer.Verdict.the-variants.{Fresh, Repeat, Refused as NotTaken}
 use Rattle.sfc.specs.declared.give.hand_out.HandedOut.{HandedOut}
 use Rattle.sfc.specs.declared.give.hand_out.HandedOut.the-variants.{Complete, Refused as NotHandedOut}
-use Rattle.sfc.specs.declared.give.prefix.Given.{Given}
-use Rattle.sfc.specs.declared.give.prefix.Given.the-variants.{Unverified, Refused as NotGiven}
+use Rattle.sfc.specs.declared.give.prefix.PrefixGiven.{PrefixGiven}
+use Rattle.sfc.specs.declared.give.prefix.PrefixGiven.the-variants.{Unverified as PrefixUnverified, Refused as NoPrefix}
+use Rattle.sfc.specs.declared.give.block.BlockGiven.{BlockGiven}
+use Rattle.sfc.specs.declared.give.block.BlockGiven.the-variants.{Unverified as BlockUnverified, Refused as NoBlock}
 use Rattle.sfc.specs.declared.note.missing.Listed.{Listed}
 use Rattle.sfc.specs.declared.note.missing.Listed.the-variants.{Count, Refused as NotListed}
 use Rattle.sfc.specs.declared.note.resend.NoteRead.{NoteRead}
@@ -70,9 +72,13 @@ abbrev pub handOutSeen : HandedOut → Checked
 handOutSeen (Complete p) = Good
 handOutSeen (NotHandedOut r) = Refused r
 
-abbrev givenSeen : Given → Checked
-givenSeen (Unverified i p) = Good
-givenSeen (NotGiven r) = Refused r
+abbrev prefixSeen : PrefixGiven → Checked
+prefixSeen (PrefixUnverified i p) = Good
+prefixSeen (NoPrefix r) = Refused r
+
+abbrev blockSeen : BlockGiven → Checked
+blockSeen (BlockUnverified i p) = Good
+blockSeen (NoBlock r) = Refused r
 
 abbrev listedSeen : Listed → Checked
 listedSeen (Count k) = Good
@@ -185,15 +191,15 @@ module _ (h : Head) (store marks : List ℕ) (l : Lent) where
   hand-out-scratch e o = wiped (passes (handOutLent h store marks l)) l _ (h .m * h .s) 1024 (rw (e, le-ltb (length (l .output)) (h .size) o)) (lengths h store marks l e)
 
 module _ (h : Head) (store marks : List ℕ) (j : ℕ) (l : Lent) where
-  block-told : (v : Checked) → givenSeen (blockRequest h store marks j l .answer) ≡ v → verdict (blockChecks h store marks j l) ≡ v
+  block-told : (v : Checked) → blockSeen (blockRequest h store marks j l .answer) ≡ v → verdict (blockChecks h store marks j l) ≡ v
   unfolding blockRequest
-  block-told v e = tells givenSeen NotGiven (Unverified (number j) (place (j * h .s))) (λ q. refl) refl (blockChecks h store marks j l) v e
+  block-told v e = tells blockSeen NoBlock (BlockUnverified (number j) (place (j * h .s))) (λ q. refl) refl (blockChecks h store marks j l) v e
 
-  block-refused : (r : Reason) → blockRequest h store marks j l .answer ≡ NotGiven r
+  block-refused : (r : Reason) → blockRequest h store marks j l .answer ≡ NoBlock r
       → OneOf r (71 ∷ 53 ∷ 52 ∷ 50 ∷ []) × (blockRequest h store marks j l .lent ≡ lentLeft r (71 ∷ 53 ∷ 52 ∷ []) l)
   unfolding blockRequest any
   block-refused r e =
-      let t = block-told (Refused r) (ap givenSeen e) in
+      let t = block-told (Refused r) (ap blockSeen e) in
       let few : Bool = ltb (heldCount marks) (h .n) && not (isHeld (getD marks j 0)) in
       let g = leaves (blockChecks h store marks j l) r (71 ∷ 53 ∷ 52 ∷ 50 ∷ []) (l .output) (put (l .output) 0 (blockGiven h store marks j)) (refl, (refl, (refl, (refl, tt)))) t in (
         g .number,
@@ -202,12 +208,12 @@ module _ (h : Head) (store marks : List ℕ) (j : ℕ) (l : Lent) where
             (g .output),
       )
 
-  block-ends : (i : BlockNumber) (p : BytePlace) → blockRequest h store marks j l .answer ≡ Unverified i p
+  block-ends : (i : BlockNumber) (p : BytePlace) → blockRequest h store marks j l .answer ≡ BlockUnverified i p
       → Ends (h .s) (l .output) (blockRequest h store marks j l .lent .output)
   unfolding blockRequest
   block-ends i p e =
       let cs : List Check = blockChecks h store marks j l in
-      let t = block-told Good (ap givenSeen e) in
+      let t = block-told Good (ap blockSeen e) in
       let q = passed cs t in
       let w = right-lent (h .size) (h .n) (h .m) (h .s) store marks (lent-right h store marks l (q .0)) in
       rw (lent-output (passes (blockLent h store marks j l)) l (checked cs (λ (r : Reason). l .output) (put (l .output) 0 (blockGiven h store marks j))))
@@ -224,21 +230,21 @@ module _ (h : Head) (store marks : List ℕ) (j : ℕ) (l : Lent) where
 -- ---- prefix and missing list
 
 module _ (h : Head) (store marks out : List ℕ) where
-  prefix-told : (v : Checked) → givenSeen (prefixGiven h store marks out .answer) ≡ v → verdict (prefixChecks h store marks out) ≡ v
+  prefix-told : (v : Checked) → prefixSeen (prefixGiven h store marks out .answer) ≡ v → verdict (prefixChecks h store marks out) ≡ v
   unfolding prefixGiven
   prefix-told v e =
-      tells givenSeen NotGiven (Unverified (number (prefixBlocks h marks)) (place (length (prefixOf h store marks)))) (λ q. refl) refl (prefixChecks h store marks out) v e
+      tells prefixSeen NoPrefix (PrefixUnverified (number (prefixBlocks h marks)) (place (length (prefixOf h store marks)))) (λ q. refl) refl (prefixChecks h store marks out) v e
 
-  prefix-refused : (r : Reason) → prefixGiven h store marks out .answer ≡ NotGiven r → Leaves r (71 ∷ 52 ∷ []) out (prefixGiven h store marks out .output)
+  prefix-refused : (r : Reason) → prefixGiven h store marks out .answer ≡ NoPrefix r → Leaves r (71 ∷ 52 ∷ []) out (prefixGiven h store marks out .output)
   unfolding prefixGiven any
-  prefix-refused r e = leaves (prefixChecks h store marks out) r (71 ∷ 52 ∷ []) out (put out 0 (prefixOf h store marks)) (refl, (refl, tt)) (prefix-told (Refused r) (ap givenSeen e))
+  prefix-refused r e = leaves (prefixChecks h store marks out) r (71 ∷ 52 ∷ []) out (put out 0 (prefixOf h store marks)) (refl, (refl, tt)) (prefix-told (Refused r) (ap prefixSeen e))
 
-  prefix-ends : (i : BlockNumber) (p : ℕ) → prefixGiven h store marks out .answer ≡ Unverified i (place p) → Ends p out (prefixGiven h store marks out .output)
+  prefix-ends : (i : BlockNumber) (p : ℕ) → prefixGiven h store marks out .answer ≡ PrefixUnverified i (place p) → Ends p out (prefixGiven h store marks out .output)
   unfolding prefixGiven
   prefix-ends i p e =
       let cs : List Check = prefixChecks h store marks out in
-      let t = prefix-told Good (ap givenSeen e) in
-      let f : _≡_ {A = Given} (Unverified (number (prefixBlocks h marks)) (place (length (prefixOf h store marks)))) (Unverified i (place p)) = sym (good-all NotGiven cs _ t) ∙ e in
+      let t = prefix-told Good (ap prefixSeen e) in
+      let f : _≡_ {A = PrefixGiven} (PrefixUnverified (number (prefixBlocks h marks)) (place (length (prefixOf h store marks)))) (PrefixUnverified i (place p)) = sym (good-all NoPrefix cs _ t) ∙ e in
       let q : place (length (prefixOf h store marks)) ≡ place p = cc in
       let k : length (prefixOf h store marks) ≡ p = ap (λ (y : BytePlace). y .0) q in
       ends cs out (prefixOf h store marks) p t k (omega (arith, ltb-false (length out) (length (prefixOf h store marks)) (passed cs t .1 .0)))

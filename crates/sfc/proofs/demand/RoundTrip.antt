@@ -84,7 +84,7 @@ module _ (w : Input) (u : length (w .uuid) ≡ 16) (sh : shapeWrong (size w) (bl
     payload-long = length-payload w sh i;
   }
 
-  -- a chunk of the file, with anything behind it
+  -- a chunk of the file, with anything after it
   pub record ChunkOf (i : ℕ) (c : List ℕ) : Type 0 where
     pub whole : verdict (chunkChecks (headFor w) c) ≡ Good
     pub index : indexOf c ≡ i

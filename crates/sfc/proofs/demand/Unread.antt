@@ -1,4 +1,4 @@
--- What lies inside the front of a list is the same with anything behind it; so each test of a whole chunk and of a header is.
+-- What lies inside the front of a list is the same with anything after it; so each test of a whole chunk and of a header is.
 -- Assumes nothing.
 use Prim.Native.Nat.{ℕ, suc, _+_, _-_, _≤_}
 use mathlib.Core.Path.{_≡_, refl, sym, ap, ap₂, _∙_}
@@ -31,7 +31,7 @@ use Rattle.sfc.specs.declared.session.offer.Verdict.{Verdict}
 use Rattle.sfc.specs.declared.session.offer.Verdict.the-variants.{Fresh, Repeat, Refused}
 use Rattle.sfc.proofs.writing.LengthLaws.{length-hash}
 
--- ---- what lies inside c, with any bytes behind c
+-- ---- what lies inside c, with any bytes after c
 
 module _ (c rest : List ℕ) where
   le-front : (at width : ℕ) → at + width ≤ length c → le (c ++ rest) at width ≡ le c at width
@@ -163,9 +163,9 @@ module _ (a t : List ℕ) (a-long : length a ≡ lengthField a + 12) (t-long : l
 pub unread : Unread
 unread =
     record {
-      behind-chunk = λ h u c rest w.
+      after-chunk = λ h u c rest w.
           (ap verdict (same-checks c rest w h u), same-payload c rest w, same-index c rest w, same-checked c rest w h u);
-      behind-offer = λ h u x c rest w.
+      after-offer = λ h u x c rest w.
           (same-verdict c rest w h u x, same-after c rest w h u x, same-offered c rest w h u x);
       between = λ a mid mid′ t al tl. read-seen a t al tl mid ∙ sym (read-seen a t al tl mid′);
     }

@@ -158,7 +158,7 @@ module _ (size n m s : ℕ) (marks store scratch : List ℕ) (w : Cut size n s �
   length-piece : length (take count (decode n m s marks store j)) ≡ count
   length-piece = length-take-le count (decode n m s marks store j) (omega (arith, long, count-most))
 
-  -- the block is cut only where nothing comes behind it
+  -- the block is cut only where nothing comes after it
   pub next-place : (length (take count (decode n m s marks store j)) ≡ s) ⊎ (rest size n m s marks store (j + 1) ≡ [])
   next-place = go least
     where

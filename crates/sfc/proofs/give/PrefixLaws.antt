@@ -18,8 +18,8 @@ use Rattle.sfc.specs.session.Lent.{lentWrong}
 use Rattle.sfc.specs.give.Prefix.{leading, prefixBlocks, prefixOf, prefixGiven}
 use Rattle.sfc.specs.declared.format.header.Head.{Head}
 use Rattle.sfc.specs.declared.answer.reason.Reason.the-variants.{Lent, OutputShort}
-use Rattle.sfc.specs.declared.give.prefix.Given.{Given}
-use Rattle.sfc.specs.declared.give.prefix.Given.the-variants.{Unverified, Refused}
+use Rattle.sfc.specs.declared.give.prefix.PrefixGiven.{PrefixGiven}
+use Rattle.sfc.specs.declared.give.prefix.PrefixGiven.the-variants.{Unverified, Refused}
 use Rattle.sfc.proofs.session.SessionLaws.{RightLent, right-lent}
 
 pub leading-start : (marks : List ℕ) → 0 ≡ leading (drop (length marks) marks)
@@ -45,7 +45,7 @@ leading-most (k ∷ marks) = go (isHeld k) (leading-most marks)
 
 module _ (h : Head) (store marks out : List ℕ) where
   pub prefix-lent : lentWrong (h .size) (h .n) (h .m) (h .s) store marks ≡ true
-      → _≡_ {A = Answered Given} (record { answer = Refused Lent; output = out }) (prefixGiven h store marks out)
+      → _≡_ {A = Answered PrefixGiven} (record { answer = Refused Lent; output = out }) (prefixGiven h store marks out)
   unfolding prefixGiven
   prefix-lent e = rw e
 
@@ -77,12 +77,12 @@ module _ (h : Head) (store marks out : List ℕ) where
       length-prefix : length (prefixOf h store marks) ≡ end
       length-prefix = ap length (sym is-prefix) ∙ length-take-le end store end-in
 
-      pub prefix-short : length out < end → _≡_ {A = Answered Given} (record { answer = Refused OutputShort; output = out }) (prefixGiven h store marks out)
+      pub prefix-short : length out < end → _≡_ {A = Answered PrefixGiven} (record { answer = Refused OutputShort; output = out }) (prefixGiven h store marks out)
       unfolding prefixGiven
       prefix-short l = rw (w, lt-ltb (length out) (length (prefixOf h store marks)) (omega (arith, length-prefix)))
 
       pub prefix-given : end ≤ length out → (src : List ℕ) → src ≡ take end store → (o : List ℕ) → o ≡ take (length src) src ++ drop (length src) out
-          → _≡_ {A = Answered Given} (record { answer = Unverified (number b) (place end); output = o }) (prefixGiven h store marks out)
+          → _≡_ {A = Answered PrefixGiven} (record { answer = Unverified (number b) (place end); output = o }) (prefixGiven h store marks out)
       unfolding prefixGiven
       prefix-given l src es o eo =
           let p : src ≡ prefixOf h store marks = es ∙ is-prefix in

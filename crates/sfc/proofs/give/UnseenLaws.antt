@@ -27,13 +27,13 @@ use Rattle.sfc.specs.give.Block.{blockGiven, blockLent, blockChecks, blo
 use Rattle.sfc.specs.demand.Demand3.{SameHeld}
 use Rattle.sfc.specs.declared.format.header.Head.{Head}
 use Rattle.sfc.specs.declared.answer.reason.Reason.{Reason}
-use Rattle.sfc.specs.declared.give.prefix.Given.the-variants.{Unverified, Refused}
+use Rattle.sfc.specs.declared.give.block.BlockGiven.the-variants.{Unverified, Refused}
 use Rattle.sfc.proofs.answer.CheckLaws.{Passed}
 use Rattle.sfc.proofs.session.SessionLaws.{right-lent}
 use Rattle.sfc.proofs.session.HeldLaws.{held-holding, decode-held}
 use Rattle.sfc.proofs.give.GivenLaws.{lent-right}
 
--- what stands behind checks matters only where they all pass
+-- what comes after checks matters only where they all pass
 checked-same : {A : Type 0} (cs : List Check) (refuse : Reason → A) (a b : A) → (Passed cs → a ≡ b) → checked cs refuse a ≡ checked cs refuse b
 checked-same [] refuse a b f = f tt
 checked-same ((true, k) ∷ cs) refuse a b f = refl

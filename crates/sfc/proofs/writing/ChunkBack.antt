@@ -1,4 +1,4 @@
--- A chunk as the writer makes it passes the receiver's checks 30 to 40, whatever lies behind it. Assumes nothing.
+-- A chunk as the writer makes it passes the receiver's checks 30 to 40, whatever lies after it. Assumes nothing.
 use Prim.Native.Nat.{ℕ, _+_, _*_, _^_, _≤_, _<_}
 use mathlib.Core.Path.{_≡_, refl, sym, ap, ap₂, _∙_}
 use mathlib.Core.Bool.{Bool, true, false, cond, not, _||_}
@@ -36,7 +36,7 @@ type-small n i = go (ltb i n)
     go true = lit< tt
     go false = lit< tt
 
--- a head under which a chunk of the index i and the payload p is made, and any bytes behind it
+-- a head under which a chunk of the index i and the payload p is made, and any bytes after it
 pub record Made (h : Head) (i : ℕ) (p : List ℕ) : Type 0 where
   pub uuid-long : length (h .uuid) ≡ 16
   pub erasure : h .erasure ≡ erasureFor (h .m)

@@ -43,7 +43,7 @@ module _ (n m s : ℕ) (content : List ℕ) (w : shapeWrong (length content) n m
       let t : n * s ≤ 1024 * 4096 = mul-le-mul {n₁ = n} {m₁ = s} {n₂ = 1024} {m₂ = 4096} (r .n-most) (r .s-most) in
       (p, a, omega arith, b, r .s-most, omega arith)
 
-  -- what is behind the blocks before the last fits in one
+  -- what comes after the blocks before the last fits in one
   pub last-fits : (q : ℕ) (last : List ℕ) → q ≡ length content - (n - 1) * s → length last ≡ 4096 → length (part content ((n - 1) * s) q) ≤ length (take s last)
   last-fits q last e h =
       let l = last-place in

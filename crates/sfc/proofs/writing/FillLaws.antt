@@ -1,4 +1,4 @@
--- A lent list that is filled from its front, piece behind piece. Assumes nothing.
+-- A lent list that is filled from its front, piece after piece. Assumes nothing.
 use Prim.Native.Nat.{ℕ, _+_, _≤_}
 use mathlib.Core.Path.{_≡_, refl, sym, ap, ap₂, _∙_}
 use mathlib.Core.List.{List, [], _++_, append-assoc, append-nil}
@@ -44,7 +44,7 @@ module _ {xs a cur : List ℕ} {at : ℕ} (f : Front xs a at cur) where
   pub front-is : {b c : List ℕ} → a ≡ b → cur ≡ c → Front xs b at c
   front-is e g = record { made = sym g ∙ f .made ∙ ap (λ (l : List ℕ). put xs 0 l) e; long = ap length (sym e) ∙ f .long; room = f .room }
 
--- each way in which a piece comes behind what stands there
+-- each way in which a piece comes after what stands there
 module _ {xs a cur : List ℕ} {at : ℕ} (f : Front xs a at cur) where
   -- a number
   pub front-le : (width v : ℕ) → at + width ≤ length xs → {c : List ℕ} → c ≡ putLe cur at width v → Front xs (a ++ bytesOf width v) (at + width) c

@@ -18,7 +18,7 @@ use Rattle.sfc.specs.format.Extension.{extensionWrong}
 use Rattle.sfc.specs.format.Header.{mispaired, flagsBarred, distinctBelow, priorityWrong, numberChecks, listChecks, regionChecks}
 use Rattle.sfc.specs.writing.Writer.{Input, size, blocks, erasureFor, body, region, outgrows, outgrown, nameWrong, hasReserved, inputWrong}
 use Rattle.sfc.specs.declared.format.header.Head.{Head}
-use Rattle.sfc.proofs.writing.RegionBack.{Small, small, not-outgrown, length-region, length-body, fields-behind, priority-back, head-back}
+use Rattle.sfc.proofs.writing.RegionBack.{Small, small, not-outgrown, length-region, length-body, fields-after, priority-back, head-back}
 
 -- ---- the identifiers are right by their making
 
@@ -51,7 +51,7 @@ module _ (w : Input) (u : length (w .uuid) ≡ 16) (s : Small w) (short : length
       && (not (extensionWrong (blocks w + w .m) (w .flags) (w .fields)) && true)))))
   region-tests =
       ap (λ (h : Head). passes (numberChecks h ++ listChecks h (region w))) (head-back w u short s whole)
-      ∙ rw (erasure-paired (w .m), erasure-known (w .m), priority-is, fields-behind w u short)
+      ∙ rw (erasure-paired (w .m), erasure-known (w .m), priority-is, fields-after w u short)
 
 -- ---- what 60 lets through
 

@@ -22,7 +22,7 @@ use Rattle.sfc.specs.writing.Writer.{Input, size, blocks, erasureFor, co
 use Rattle.sfc.proofs.writing.LayoutLaws.{length-padded, length-indices}
 use Rattle.sfc.proofs.writing.LengthLaws.{length-hash}
 
--- ---- what stands at a place, from what stands behind it
+-- ---- what stands at a place, from what stands after it
 
 pub number-at : (r b : List ℕ) (n width v : ℕ) → drop n r ≡ bytesOf width v ++ b → v < 256 ^ width → le r n width ≡ v
 number-at r b n width v e h =
@@ -204,9 +204,9 @@ module _ (w : Input) where
     at₃₃₅ : drop 335 (region w) ≡ r₃₃₅
     at₃₃₅ = next (region w) (bytesOf 2 (length (w .priority))) r₃₃₅ 333 2 at₃₃₃ (long 2 (length (w .priority)))
 
-    -- the fields behind the priority list
-    pub fields-behind : drop (335 + 4 * length (w .priority)) (region w) ≡ w .fields
-    fields-behind = next (region w) (indexBytes (w .priority)) (w .fields) 335 (4 * length (w .priority)) at₃₃₅ (length-indices (w .priority))
+    -- the fields after the priority list
+    pub fields-after : drop (335 + 4 * length (w .priority)) (region w) ≡ w .fields
+    fields-after = next (region w) (indexBytes (w .priority)) (w .fields) 335 (4 * length (w .priority)) at₃₃₅ (length-indices (w .priority))
 
     module _ (s : Small w) where
       pub priority-back : indices (region w) 335 (length (w .priority)) ≡ w .priority

@@ -1,4 +1,4 @@
--- A loop that lays lists of one width, one behind the other, over a lent list, and what it makes of the chunks of a file. Assumes nothing.
+-- A loop that lays lists of one width, one after the other, over a lent list, and what it makes of the chunks of a file. Assumes nothing.
 use Prim.Native.Nat.{ℕ, _+_, _-_, _*_, _<_, _≤_}
 use mathlib.Core.Path.{_≡_, refl, sym, ap, ap₂, _∙_}
 use mathlib.Core.Bool.{false}

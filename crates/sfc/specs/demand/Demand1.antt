@@ -32,7 +32,8 @@ use Rattle.sfc.specs.declared.format.chunk.ChunkChecked.the-variants.{Re
 use Rattle.sfc.specs.declared.format.lookup.FieldFound.the-variants.{At}
 use Rattle.sfc.specs.declared.session.offer.Verdict.the-variants.{Refused as NotTaken}
 use Rattle.sfc.specs.declared.give.hand_out.HandedOut.the-variants.{Complete, Refused as NotHandedOut}
-use Rattle.sfc.specs.declared.give.prefix.Given.the-variants.{Unverified, Refused as NotGiven}
+use Rattle.sfc.specs.declared.give.prefix.PrefixGiven.the-variants.{Unverified as PrefixUnverified, Refused as NoPrefix}
+use Rattle.sfc.specs.declared.give.block.BlockGiven.the-variants.{Unverified as BlockUnverified, Refused as NoBlock}
 use Rattle.sfc.specs.declared.note.missing.Listed.the-variants.{Count, Refused as NotListed}
 use Rattle.sfc.specs.declared.answer.written.Written.the-variants.{Bytes as Took, Refused as NotWritten}
 
@@ -47,10 +48,10 @@ pub record Leaves (r : Reason) (ks before after : List ℕ) : Type 0 where
   pub number : OneOf r ks
   pub output : after ≡ before
 
--- an answer that ends at place k: behind it the output is as it was
+-- an answer that ends at place k: after it the output is as it was
 pub record Ends (k : ℕ) (before after : List ℕ) : Type 0 where
   pub long : length after ≡ length before
-  pub behind : drop k after ≡ drop k before
+  pub rest : drop k after ≡ drop k before
 
 -- what a refusal leaves of scratch and output: with the numbers ks all is as it was; with others scratch is all zeros
 abbrev pub lentLeft : Reason → List ℕ → Lent → Lent
@@ -84,16 +85,16 @@ pub record Demand1 : Type 0 where
   pub hand-out-scratch : (h : Head) (store marks : List ℕ) (l : Lent) → rebuildWrong h store marks l ≡ false → h .size ≤ length (l .output)
       → (handOut h store marks l .lent .scratch ≡ zeros (h .m * h .s)) × (handOut h store marks l .lent .numbers ≡ zeros 1024)
   -- A request for one block: 71, 53, 52 or 50, and the like.
-  pub block-refused : (h : Head) (store marks : List ℕ) (j : ℕ) (l : Lent) (r : Reason) → blockRequest h store marks j l .answer ≡ NotGiven r
+  pub block-refused : (h : Head) (store marks : List ℕ) (j : ℕ) (l : Lent) (r : Reason) → blockRequest h store marks j l .answer ≡ NoBlock r
       → OneOf r (71 ∷ 53 ∷ 52 ∷ 50 ∷ []) × (blockRequest h store marks j l .lent ≡ lentLeft r (71 ∷ 53 ∷ 52 ∷ []) l)
   pub block-ends : (h : Head) (store marks : List ℕ) (j : ℕ) (l : Lent) (i : BlockNumber) (p : BytePlace)
-      → blockRequest h store marks j l .answer ≡ Unverified i p → Ends (h .s) (l .output) (blockRequest h store marks j l .lent .output)
+      → blockRequest h store marks j l .answer ≡ BlockUnverified i p → Ends (h .s) (l .output) (blockRequest h store marks j l .lent .output)
   pub block-scratch : (h : Head) (store marks : List ℕ) (j : ℕ) (l : Lent) → rebuildWrong h store marks l ≡ false → j < h .n → h .s ≤ length (l .output)
       → (blockRequest h store marks j l .lent .scratch ≡ zeros (h .m * h .s)) × (blockRequest h store marks j l .lent .numbers ≡ zeros 1024)
   -- The prefix and the missing list: 71 or 52.
-  pub prefix-refused : (h : Head) (store marks out : List ℕ) (r : Reason) → prefixGiven h store marks out .answer ≡ NotGiven r
+  pub prefix-refused : (h : Head) (store marks out : List ℕ) (r : Reason) → prefixGiven h store marks out .answer ≡ NoPrefix r
       → Leaves r (71 ∷ 52 ∷ []) out (prefixGiven h store marks out .output)
-  pub prefix-ends : (h : Head) (store marks out : List ℕ) (i : BlockNumber) (p : ℕ) → prefixGiven h store marks out .answer ≡ Unverified i (place p)
+  pub prefix-ends : (h : Head) (store marks out : List ℕ) (i : BlockNumber) (p : ℕ) → prefixGiven h store marks out .answer ≡ PrefixUnverified i (place p)
       → Ends p out (prefixGiven h store marks out .output)
   pub missing-refused : (size n m s : ℕ) (marks out : List ℕ) (r : Reason) → listMissing size n m s marks out .answer ≡ NotListed r
       → Leaves r (71 ∷ 52 ∷ []) out (listMissing size n m s marks out .output)

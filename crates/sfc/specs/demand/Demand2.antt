@@ -74,7 +74,7 @@ pub record Demand2 : Type 0 where
   -- Any content can be written, cut in any way that 14 and 15 let through.
   pub any-content : (content : List ℕ) (s m : ℕ) (uuid : List ℕ) → Bytes content → length uuid ≡ 16
       → shapeWrong (length content) (wantedBlocks (length content) s) m s ≡ false → Lawful (plain content s m uuid)
-  -- The writer writes the file that the draft lays down, whole, and nothing behind it.
+  -- The writer writes the file that the draft lays down, whole, and nothing after it.
   pub file-written : (w : Input) → Lawful w → (out : List ℕ) → length (fileOf w) ≤ length out
       → _≡_ {A = Answered Written} (writeFile w out) (record { answer = Took (length (fileOf w)); output = put out 0 (fileOf w) })
   pub file-length : (w : Input) → Lawful w → length (fileOf w) ≡ 76 + length (body w) + (blocks w + w .m) * (84 + w .s)
@@ -83,7 +83,7 @@ pub record Demand2 : Type 0 where
   pub header-read-back : (w : Input) → Lawful w → (between : List ℕ)
       → readHeader (preamble ++ region w ++ between ++ trailer w) ≡ acceptedHeader (headFor w)
   pub file-read-back : (w : Input) → Lawful w → readHeader (fileOf w) ≡ acceptedHeader (headFor w)
-  -- Chunk i lies in the file where its length says, and is taken for what it is, whatever lies behind it.
+  -- Chunk i lies in the file where its length says, and is taken for what it is, whatever lies after it.
   pub chunk-in-file : (w : Input) → Lawful w → (i : ℕ) → i < blocks w + w .m
       → part (fileOf w) (12 + length (body w) + i * (84 + w .s)) (84 + w .s) ≡ chunk w i
   pub chunk-read-back : (w : Input) → Lawful w → (i : ℕ) → i < blocks w + w .m → (rest : List ℕ)

@@ -27,8 +27,8 @@ use Rattle.sfc.specs.note.Missing.{missing, listMissing}
 use Rattle.sfc.specs.session.SessionTheorems.{OneOffer, ManyOffers, EndState, TalliesCount}
 use Rattle.sfc.specs.declared.format.header.Head.{Head}
 use Rattle.sfc.specs.declared.answer.places.BytePlace.{BytePlace}
-use Rattle.sfc.specs.declared.give.prefix.Given.{Given}
-use Rattle.sfc.specs.declared.give.prefix.Given.the-variants.{Unverified, Refused}
+use Rattle.sfc.specs.declared.give.block.BlockGiven.{BlockGiven}
+use Rattle.sfc.specs.declared.give.block.BlockGiven.the-variants.{Unverified, Refused}
 use Rattle.sfc.specs.declared.give.hand_out.HandedOut.{HandedOut}
 use Rattle.sfc.specs.declared.give.hand_out.HandedOut.the-variants.{Complete, Refused as NotHandedOut}
 use Rattle.sfc.specs.declared.note.missing.Listed.{Listed}
@@ -63,13 +63,13 @@ pub record Room (h : Head) (x : Session) (l : Lent) (bytes : ℕ) : Type 0 where
 -- a request for data block j gives the bytes b, labelled unverified, and nothing past them
 abbrev pub Gives : Head → Session → ℕ → List ℕ → Type 0
 Gives h x j b = (l : Lent) → Room h x l (h .s)
-    → _≡_ {A = Rebuilding Given} (blockRequest h (x .store) (x .marks) j l)
+    → _≡_ {A = Rebuilding BlockGiven} (blockRequest h (x .store) (x .marks) j l)
     (record { answer = Unverified (number j) (place (j * h .s)); lent = lentAfter true l (put (l .output) 0 b) })
 
 -- a request for data block j is refused by 50, and the output is as it was
 abbrev pub Withholds : Head → Session → ℕ → Type 0
 Withholds h x j = (l : Lent) → Room h x l (h .s)
-    → _≡_ {A = Rebuilding Given} (blockRequest h (x .store) (x .marks) j l)
+    → _≡_ {A = Rebuilding BlockGiven} (blockRequest h (x .store) (x .marks) j l)
     (record { answer = Refused (reasonOf 50); lent = lentAfter true l (l .output) })
 
 -- a hand-out gives the first `size` bytes of d, and says complete, if they have the header's hash; if not, it refuses by 51

@@ -14,8 +14,8 @@ use Rattle.sfc.specs.give.HandOut.{Rebuilding, lentAfter}
 use Rattle.sfc.specs.session.Lent.{Lent, rebuildWrong}
 use Rattle.sfc.specs.declared.format.header.Head.{Head}
 use Rattle.sfc.specs.declared.answer.reason.Reason.{Reason}
-use Rattle.sfc.specs.declared.give.prefix.Given.{Given}
-use Rattle.sfc.specs.declared.give.prefix.Given.the-variants.{Unverified, Refused}
+use Rattle.sfc.specs.declared.give.block.BlockGiven.{BlockGiven}
+use Rattle.sfc.specs.declared.give.block.BlockGiven.the-variants.{Unverified, Refused}
 
 -- the S bytes of data block j, padding included: as it is held or, with N held, rebuilt as for the hand-out
 abbrev pub blockGiven : Head → List ℕ → List ℕ → ℕ → List ℕ
@@ -29,8 +29,8 @@ blockLent h store marks j l = (rebuildWrong h store marks l, 71) ∷ (leb (h .n)
 abbrev pub blockChecks : Head → List ℕ → List ℕ → ℕ → Lent → List Check
 blockChecks h store marks j l = blockLent h store marks j l ++ ((ltb (heldCount marks) (h .n) && not (isHeld (getD marks j 0)), 50) ∷ [])
 
--- the block's number, and the place of its first byte among the data blocks joined
-unfoldable pub blockRequest : Head → List ℕ → List ℕ → ℕ → Lent → Rebuilding Given
+-- the block asked for, and the place of its first byte in the content; labelled unverified
+unfoldable pub blockRequest : Head → List ℕ → List ℕ → ℕ → Lent → Rebuilding BlockGiven
 blockRequest h store marks j l = record {
   answer = checked (blockChecks h store marks j l) Refused (Unverified (number j) (place (j * h .s)));
   lent = lentAfter (passes (blockLent h store marks j l)) l (checked (blockChecks h store marks j l) (λ (r : Reason). l .output) (put (l .output) 0 (blockGiven h store marks j)));

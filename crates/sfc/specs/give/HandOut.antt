@@ -12,7 +12,7 @@ use Rattle.little.specs.Runs.{zeros, same}
 use Rattle.sfc.specs.answer.Numbers.{Check, checked, passes, Answered}
 use Rattle.sfc.specs.answer.Places.{place}
 use Rattle.sfc.specs.session.Marks.{heldCount}
-use Rattle.sfc.specs.session.Lent.{Lent, rebuildWrong}
+use Rattle.sfc.specs.session.Lent.{Lent, lentOf, rebuildWrong}
 use Rattle.sfc.specs.declared.format.header.Head.{Head}
 use Rattle.sfc.specs.declared.answer.reason.Reason.{Reason}
 use Rattle.sfc.specs.declared.give.hand_out.HandedOut.{HandedOut}
@@ -22,6 +22,9 @@ use Rattle.sfc.specs.declared.give.hand_out.HandedOut.the-variants.{Comp
 pub record Rebuilding (A : Type 0) : Type 0 where
   pub answer : A
   pub lent : Lent
+
+abbrev pub rebuilt : {A : Type 0} → A → List ℕ → List ℕ → List ℕ → Rebuilding A
+rebuilt answer scratch numbers output = record { answer = answer; lent = lentOf scratch numbers output }
 
 -- scratch is all zeros once the lent memory was found right, whatever came of it, and untouched before
 unfoldable pub lentAfter : Bool → Lent → List ℕ → Lent

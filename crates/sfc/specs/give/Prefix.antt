@@ -11,8 +11,8 @@ use Rattle.sfc.specs.session.Marks.{isHeld}
 use Rattle.sfc.specs.session.Lent.{lentWrong}
 use Rattle.sfc.specs.declared.format.header.Head.{Head}
 use Rattle.sfc.specs.declared.answer.reason.Reason.{Reason}
-use Rattle.sfc.specs.declared.give.prefix.Given.{Given}
-use Rattle.sfc.specs.declared.give.prefix.Given.the-variants.{Unverified, Refused}
+use Rattle.sfc.specs.declared.give.prefix.PrefixGiven.{PrefixGiven}
+use Rattle.sfc.specs.declared.give.prefix.PrefixGiven.the-variants.{Unverified, Refused}
 
 -- how many marks stand before the first that is not held
 unfoldable pub leading : List ℕ → ℕ
@@ -33,8 +33,9 @@ prefixChecks h store marks out =
     ∷ (ltb (length out) (length (prefixOf h store marks)), 52)
     ∷ []
 
--- the count of blocks and the count of bytes, labelled unverified
-unfoldable pub prefixGiven : Head → List ℕ → List ℕ → List ℕ → Answered Given
+-- how many data blocks are given, which is also the index of the first that is not (N where all are), and how many bytes; labelled
+-- unverified
+unfoldable pub prefixGiven : Head → List ℕ → List ℕ → List ℕ → Answered PrefixGiven
 prefixGiven h store marks out = record {
   answer = checked (prefixChecks h store marks out) Refused (Unverified (number (prefixBlocks h marks)) (place (length (prefixOf h store marks))));
   output = checked (prefixChecks h store marks out) (λ (r : Reason). out) (put out 0 (prefixOf h store marks));

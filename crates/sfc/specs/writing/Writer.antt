@@ -76,7 +76,7 @@ identityBytes uuid size format name digest = uuid ++ bytesOf 8 size ++ bytesOf 2
 unfoldable pub shapeBytes : ℕ → ℕ → ℕ → ℕ → ℕ → List ℕ
 shapeBytes n m s flags p = bytesOf 4 n ++ bytesOf 4 m ++ bytesOf 4 s ++ (erasureFor m ∷ compression ∷ []) ++ bytesOf 2 flags ++ bytesOf 2 p
 
--- numbers of four bytes each, one behind the other
+-- numbers of four bytes each, one after the other
 unfoldable pub indexBytes : List ℕ → List ℕ
 indexBytes [] = []
 indexBytes (i ∷ is) = bytesOf 4 i ++ indexBytes is
@@ -167,7 +167,7 @@ inputWrong w =
 abbrev pub writerChecks : Input → List ℕ → List Check
 writerChecks w out = (inputWrong w, 60) ∷ (ltb (length out) (length (fileOf w)), 61) ∷ []
 
--- the file stands at the output's front, and what lies behind it stays
+-- the file stands at the output's front, and what lies after it stays
 unfoldable pub writeFile : Input → List ℕ → Answered Written
 writeFile w out = record {
   answer = checked (writerChecks w out) Refused (Bytes (length (fileOf w)));

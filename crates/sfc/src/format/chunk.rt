@@ -5,6 +5,7 @@ use crate::answer::places::BytePlace;
 use crate::answer::reason::Checked;
 use crate::answer::reason::Reason;
 use crate::format::header::Head;
+use crate::format::layout::*;
 use crate::format::text::stands_at;
 use crate::session::lent::is_shape_wrong;
 ghost use mathlib.Core.Path.{_≡_};
@@ -13,37 +14,13 @@ ghost use lib.ListN.{length};
 ghost use Rattle.sfc.specs.answer.Numbers.{verdict};
 ghost use Rattle.sfc.specs.format.Chunk.{indexOf, payloadLength, typeFor, lengthChecks, sealChecks, headChecks, chunkChecks, measureChunk, checkChunk};
 
-// A chunk is a header, the payload, and a trailer of hash and end marker.
-pub(crate) const CHUNK_HEADER: usize = 48;
-
-pub(crate) const CHUNK_TRAILER: usize = 36;
-
-pub(crate) const CHUNK_OUTER: usize = CHUNK_HEADER + CHUNK_TRAILER;
-
-pub(crate) const CHUNK_MAGIC: [u8; 4] = *b"CHK\0";
-
-pub(crate) const END_MARKER: [u8; 4] = *b"/CHK";
-
-// Where the fields of its header stand, and how many bytes are reserved.
-pub(crate) const UUID_AT: usize = 4;
-
-pub(crate) const INDEX_AT: usize = 20;
-
-pub(crate) const TYPE_AT: usize = 24;
-
-pub(crate) const PAYLOAD_LENGTH_AT: usize = 28;
-
-pub(crate) const COMPRESSION_AT: usize = 32;
-
-pub(crate) const ERASURE_AT: usize = 33;
-
-pub(crate) const RESERVED_AT: usize = 34;
-
-const RESERVED: usize = 14;
-
 // Where the end marker stands, in a chunk without payload.
 const END_MARKER_AT: usize = CHUNK_OUTER - 4;
 
+// Where the payload begins, as an answer says it.
+const PAYLOAD_AT: u32 = CHUNK_HEADER as u32;
+
+// The types of a chunk.
 const DATA: u32 = 1;
 
 const RECOVERY: u32 = 2;
@@ -63,13 +40,13 @@ pub enum ChunkMeasured {
 pub(crate) fn index_of(c: &[u8]) -> u32
     ensures { λ r. ⌜ r ≡ indexOf (now (c .entry)) ⌝ }
 {
-    little::read32(c, INDEX_AT)
+    little::read32(c, CHUNK_INDEX_AT)
 }
 
 pub(crate) fn payload_length(c: &[u8]) -> u32
     ensures { λ r. ⌜ r ≡ payloadLength (now (c .entry)) ⌝ }
 {
-    little::read32(c, PAYLOAD_LENGTH_AT)
+    little::read32(c, CHUNK_LENGTH_AT)
 }
 
 pub(crate) fn type_for(n: u32, index: u32) -> u32
@@ -123,14 +100,14 @@ fn check_against_head(h: Head, c: &[u8]) -> Checked
     ensures { λ r. ⌜ r ≡ verdict (headChecks h (now (c .entry))) ⌝ }
 {
     let uuid = h.uuid;
-    let other_file = !stands_at(c, UUID_AT, &uuid);
+    let other_file = !stands_at(c, CHUNK_UUID_AT, &uuid);
     let index = index_of(c);
     let outside = h.n as u64 + h.m as u64 <= index as u64;
-    let other_type = little::read32(c, TYPE_AT) != type_for(h.n, index);
-    let zeros = [0u8; RESERVED];
-    let used = !stands_at(c, RESERVED_AT, &zeros);
-    let compression = little::byte_at(c, COMPRESSION_AT) != h.compression;
-    let erasure = little::byte_at(c, ERASURE_AT) != h.erasure;
+    let other_type = little::read32(c, CHUNK_TYPE_AT) != type_for(h.n, index);
+    let zeros = [0u8; CHUNK_RESERVED];
+    let used = !stands_at(c, CHUNK_RESERVED_AT, &zeros);
+    let compression = little::byte_at(c, CHUNK_COMPRESSION_AT) != h.compression;
+    let erasure = little::byte_at(c, CHUNK_ERASURE_AT) != h.erasure;
     let file = refuse_if(Checked::Good, other_file, Reason::OtherFile);
     let range = refuse_if(file, outside, Reason::IndexRange);
     let kind = refuse_if(range, other_type, Reason::TypeIndex);
@@ -166,8 +143,6 @@ pub fn check_chunk(h: Head, c: &[u8]) -> ChunkChecked
     let verdict = check_all(h, c);
     match verdict {
         Checked::Refused(reason) => ChunkChecked::Refused(reason),
-        Checked::Good => {
-            ChunkChecked::Whole(BlockNumber(index_of(c)), BytePlace(CHUNK_HEADER as u32))
-        }
+        Checked::Good => { ChunkChecked::Whole(BlockNumber(index_of(c)), BytePlace(PAYLOAD_AT)) }
     }
 }

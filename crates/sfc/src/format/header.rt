@@ -3,13 +3,13 @@ use crate::answer::checks::refuse_if;
 use crate::answer::reason::Checked;
 use crate::answer::reason::Reason;
 use crate::format::extension::are_fields_wrong;
+use crate::format::layout::*;
 use crate::format::limits::are_flags_barred;
 use crate::format::limits::is_above_house;
 use crate::format::limits::is_length_wrong;
 use crate::format::limits::is_mispaired;
 use crate::format::limits::is_unlawful;
 use crate::format::priority::is_priority_wrong;
-use crate::format::text::NAME_ROOM;
 use crate::format::text::name_length;
 use crate::format::text::stands_at;
 ghost use mathlib.Core.Path.{_≡_};
@@ -18,60 +18,6 @@ ghost use Prim.Native.Nat.{_+_, _≤_};
 ghost use lib.ListN.{length};
 ghost use Rattle.sfc.specs.answer.Numbers.{verdict, checked};
 ghost use Rattle.sfc.specs.format.Header.{headOf, blankHead, startChecks, numberChecks, listChecks, regionChecks, trailerChecks, refusedHeader, acceptedHeader, readHeader};
-
-// The preamble: magic and version. H, the region's first field, is the length of what follows it.
-pub(crate) const MAGIC: [u8; 4] = *b"SFC\0";
-
-pub(crate) const MAJOR_AT: usize = 4;
-
-pub(crate) const MINOR_AT: usize = 6;
-
-pub(crate) const REGION_AT: usize = 8;
-
-pub(crate) const LENGTH_AT: usize = REGION_AT;
-
-pub(crate) const AFTER_LENGTH: usize = REGION_AT + 4;
-
-// The fields of a region, by their places in it; the priority list stands after them, and the extension fields after the list.
-pub(crate) const HEADER_UUID_AT: usize = 4;
-
-pub(crate) const SIZE_AT: usize = 20;
-
-pub(crate) const FORMAT_AT: usize = 28;
-
-pub(crate) const NAME_AT: usize = 30;
-
-pub(crate) const HASH_AT: usize = 285;
-
-pub(crate) const N_AT: usize = 317;
-
-pub(crate) const M_AT: usize = 321;
-
-pub(crate) const S_AT: usize = 325;
-
-pub(crate) const ERASURE_AT: usize = 329;
-
-pub(crate) const COMPRESSION_AT: usize = 330;
-
-pub(crate) const FLAGS_AT: usize = 331;
-
-pub(crate) const PRIORITIES_AT: usize = 333;
-
-pub(crate) const LISTS_AT: usize = 335;
-
-// The file's trailer: magic, the region's hash, the time, reserved bytes.
-pub(crate) const TRAILER: usize = 64;
-
-pub(crate) const TRAILER_MAGIC: [u8; 8] = *b"TRLR\0\0\0\0";
-
-pub(crate) const TRAILER_HASH_AT: usize = 8;
-
-pub(crate) const TRAILER_TIME_AT: usize = 40;
-
-pub(crate) const TRAILER_RESERVED_AT: usize = 48;
-
-// What a file has beside the H bytes that its header's length counts, and beside its chunks.
-pub(crate) const HEADER_OUTER: usize = AFTER_LENGTH + TRAILER;
 
 // The fields of a header region, in their order: H is header_length, P is priorities. The name has name_length bytes, and
 // zeros after them.
@@ -141,7 +87,7 @@ fn check_lists(r: &[u8]) -> Checked
     if is_priority_wrong(r, n, p) {
         return Checked::Refused(Reason::Priority);
     }
-    let start = LISTS_AT + 4 * p as usize;
+    let start = HEADER_BEFORE_LISTS + 4 * p as usize;
     let blocks = n as u64 + little::read32(r, M_AT) as u64;
     let wrong = are_fields_wrong(blocks, little::read16(r, FLAGS_AT), &r[start..]);
     refuse_if(Checked::Good, wrong, Reason::Extension)
@@ -189,7 +135,7 @@ fn head_of(r: &[u8]) -> Head
     ensures { λ h. ⌜ h ≡ headOf (now (r .entry)) ⌝ }
 {
     let mut uuid = [0u8; 16];
-    bytes::copy(&r[HEADER_UUID_AT..SIZE_AT], &mut uuid);
+    bytes::copy(&r[UUID_AT..SIZE_AT], &mut uuid);
     let mut hash = [0u8; 32];
     bytes::copy(&r[HASH_AT..N_AT], &mut hash);
     let mut name = [0u8; NAME_ROOM];

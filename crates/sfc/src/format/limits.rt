@@ -1,9 +1,10 @@
 // The draft's limits and the house's, as tests of numbers.
+use crate::format::layout::*;
 ghost use mathlib.Core.Path.{_≡_};
 ghost use Rattle.sfc.specs.format.Limits.{wantedBlocks, unlawful, aboveHouse, lengthWrong};
 ghost use Rattle.sfc.specs.format.Header.{mispaired, flagsBarred};
 
-// The draft's: bytes to a block, blocks of a kind and of both, bytes of content, and H.
+// The draft's: bytes to a block, blocks of a kind and of both, bytes of content.
 const DRAFT_BLOCK: u32 = 268435456;
 
 const DRAFT_BLOCKS: u32 = 65534;
@@ -11,17 +12,6 @@ const DRAFT_BLOCKS: u32 = 65534;
 const DRAFT_BLOCKS_IN_ALL: u64 = 65535;
 
 const DRAFT_SIZE: u64 = 1099511627776;
-
-pub(crate) const LEAST_H: u32 = 331;
-
-pub(crate) const MOST_H: u32 = 65536;
-
-// The house's.
-pub(crate) const MOST_DATA: u32 = 1024;
-
-pub(crate) const MOST_RECOVERY: u32 = 32;
-
-pub(crate) const MOST_BLOCK: u32 = 4096;
 
 // How many data blocks a size wants, of blocks that are not empty.
 pub(crate) fn wanted_blocks(size: u64, s: u32) -> u64

@@ -1,5 +1,5 @@
 // The priority list, in a header region and as the writer is given it.
-use crate::format::header::LISTS_AT;
+use crate::format::layout::HEADER_BEFORE_LISTS;
 ghost use mathlib.Core.Path.{_≡_};
 ghost use Prim.Native.Nat.{_^_, _<_};
 ghost use lib.Dec.{eqb};
@@ -45,7 +45,8 @@ pub(crate) fn is_priority_wrong(r: &[u8], n: u32, p: u16) -> bool
         return true;
     }
     let many = p as usize;
-    (r.len() < LISTS_AT + 4 * many) | !are_distinct_below(r, LISTS_AT, many, n)
+    (r.len() < HEADER_BEFORE_LISTS + 4 * many)
+        | !are_distinct_below(r, HEADER_BEFORE_LISTS, many, n)
 }
 
 fn is_among(x: u32, list: &[u32]) -> bool

@@ -1,12 +1,10 @@
 // Bytes at a place of a slice: whether they stand there, and names, which end before their first zero.
+use crate::format::layout::NAME_ROOM;
 ghost use mathlib.Core.Path.{_≡_};
 ghost use Prim.Native.Nat.{_+_, _<_, _^_};
 ghost use lib.ListN.{length};
 ghost use Rattle.sfc.specs.format.Bytes.{standsAt, beforeZero};
 ghost use Rattle.sfc.specs.writing.Writer.{nameWrong};
-
-// The longest name.
-pub(crate) const NAME_ROOM: usize = 255;
 
 // Whether `wanted` stands in s from `at` on; a byte past the end counts as 0.
 pub(crate) fn stands_at(s: &[u8], at: usize, wanted: &[u8]) -> bool

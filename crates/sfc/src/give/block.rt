@@ -3,22 +3,23 @@ use crate::answer::places::BlockNumber;
 use crate::answer::places::BytePlace;
 use crate::answer::reason::Reason;
 use crate::format::header::Head;
-use crate::give::hand_out::rebuild_missing;
-use crate::give::prefix::Given;
+use crate::give::rebuild::rebuild_missing;
 use crate::session::lent::is_rebuild_wrong;
 use crate::session::marks::held_count;
 ghost use mathlib.Core.Path.{_≡_};
-ghost use mathlib.Core.Bool.{false, cond, not, _&&_};
 ghost use Prim.Native.Nat.{_≤_, _<_};
-ghost use lib.Dec.{ltb};
-ghost use lib.ListN.{length, getD};
-ghost use Rattle.little.specs.Parts.{put};
+ghost use lib.ListN.{length};
 ghost use Rattle.cauchy.specs.Decode.{decode};
-ghost use Rattle.sfc.specs.session.Marks.{isHeld, heldCount};
-ghost use Rattle.sfc.specs.inner.Gather.{Rebuildable};
-ghost use Rattle.sfc.specs.give.HandOut.{Rebuilding};
-ghost use Rattle.sfc.specs.session.Lent.{Lent};
+ghost use Rattle.sfc.specs.inner.Gather.{Rebuildable, canBeHad, SameLengths, putIf};
+ghost use Rattle.sfc.specs.session.Lent.{lentOf};
+ghost use Rattle.sfc.specs.give.HandOut.{rebuilt};
 ghost use Rattle.sfc.specs.give.Block.{blockRequest};
+
+// The block asked for, and the place of its first byte in the content. It is unverified, whatever else is known.
+pub enum BlockGiven {
+    Unverified(BlockNumber, BytePlace),
+    Refused(Reason),
+}
 
 // Past 71, 53 and 52: data block j to the output's front, and whether it could be had.
 fn give_block(
@@ -33,7 +34,7 @@ fn give_block(
     out: &mut [u8],
 ) -> bool
     requires { ⌜ Rebuildable n m s (now store) (now marks) (now scratch) (now numbers) × (j < n) × (s ≤ length (now out)) ⌝ }
-    ensures { λ r. ⌜ (r ≡ not (ltb (heldCount (now (marks .entry))) n && not (isHeld (getD (now (marks .entry)) j 0)))) × (now (out .exit) ≡ cond r (put (now (out .entry)) 0 (decode n m s (now (marks .entry)) (now (store .entry)) j)) (now (out .entry))) × (length (now (scratch .exit)) ≡ length (now (scratch .entry))) × (length (now (numbers .exit)) ≡ length (now (numbers .entry))) ⌝ }
+    ensures { λ r. ⌜ (r ≡ canBeHad n (now (marks .entry)) j) × (now (out .exit) ≡ putIf r (now (out .entry)) (decode n m s (now (marks .entry)) (now (store .entry)) j)) × SameLengths (now (scratch .entry)) (now (scratch .exit)) (now (numbers .entry)) (now (numbers .exit)) ⌝ }
 {
     let i = j as usize;
     let width = s as usize;
@@ -62,8 +63,8 @@ pub fn block(
     scratch: &mut [u8],
     numbers: &mut [u16],
     out: &mut [u8],
-) -> Given
-    ensures { λ r. ⌜ _≡_ {A = Rebuilding Given} (record { answer = r; lent = record { scratch = now (scratch .exit); numbers = now (numbers .exit); output = now (out .exit) } }) (blockRequest h (now (store .entry)) (now (marks .entry)) (number .0) (record { scratch = now (scratch .entry); numbers = now (numbers .entry); output = now (out .entry) })) ⌝ }
+) -> BlockGiven
+    ensures { λ r. ⌜ rebuilt r (now (scratch .exit)) (now (numbers .exit)) (now (out .exit)) ≡ blockRequest h (now (store .entry)) (now (marks .entry)) (number .0) (lentOf (now (scratch .entry)) (now (numbers .entry)) (now (out .entry))) ⌝ }
 {
     if is_rebuild_wrong(
         h.size,
@@ -75,20 +76,20 @@ pub fn block(
         scratch.len(),
         numbers.len(),
     ) {
-        return Given::Refused(Reason::Lent);
+        return BlockGiven::Refused(Reason::Lent);
     }
     let j = number.0;
     if h.n <= j {
-        return Given::Refused(Reason::NoDataBlock);
+        return BlockGiven::Refused(Reason::NoDataBlock);
     }
     if out.len() < h.s as usize {
-        return Given::Refused(Reason::OutputShort);
+        return BlockGiven::Refused(Reason::OutputShort);
     }
     let given = give_block(j, h.n, h.m, h.s, store, marks, scratch, numbers, out);
     little::clear8(scratch);
     little::clear16(numbers);
     if !given {
-        return Given::Refused(Reason::Few);
+        return BlockGiven::Refused(Reason::Few);
     }
-    Given::Unverified(BlockNumber(j), BytePlace(j * h.s))
+    BlockGiven::Unverified(BlockNumber(j), BytePlace(j * h.s))
 }

@@ -3,14 +3,13 @@
 use blake3::Running;
 ghost use mathlib.Core.Path.{_≡_};
 ghost use Prim.Native.Nat.{_+_, _≤_};
-ghost use lib.ListN.{length, take};
+ghost use lib.ListN.{length};
 ghost use Rattle.little.specs.Parts.{put};
 ghost use Rattle.blake3.specs.Tree as tree;
 ghost use Rattle.blake3.specs.Running.{withBytes, mostFed};
-ghost use Rattle.cauchy.specs.Decode.{decoded};
-ghost use Rattle.sfc.specs.inner.Gather.{Restored, Cut};
+ghost use Rattle.sfc.specs.inner.Gather.{Restored, Cut, contentBytes};
 
-// A running hash with so many bytes more that they cannot be too many.
+// The running hash once `part` is fed to it. Feeding is refused only past 2⁴⁰ bytes, and a content is shorter.
 fn with_part(state: Running, part: &[u8]) -> Running
     requires { ⌜ state .fed + length (now part) ≤ mostFed ⌝ }
     ensures { λ r. ⌜ r ≡ withBytes state (now (part .entry)) ⌝ }
@@ -30,7 +29,7 @@ pub(crate) fn content_hash(
     scratch: &[u8],
 ) -> [u8; 32]
     requires { ⌜ Cut size n s × Restored n m s (now marks) (now store) (now scratch) ⌝ }
-    ensures { λ r. ⌜ r ≡ tree.hash (take size (decoded n m s (now (marks .entry)) (now (store .entry)))) ⌝ }
+    ensures { λ r. ⌜ r ≡ tree.hash (contentBytes size n m s (now (marks .entry)) (now (store .entry))) ⌝ }
 {
     let mut state = Running::new();
     let mut row = 0;
@@ -65,7 +64,7 @@ pub(crate) fn copy_content(
     out: &mut [u8],
 )
     requires { ⌜ Cut size n s × Restored n m s (now marks) (now store) (now scratch) × (size ≤ length (now out)) ⌝ }
-    ensures { λ _. ⌜ now (out .exit) ≡ put (now (out .entry)) 0 (take size (decoded n m s (now (marks .entry)) (now (store .entry)))) ⌝ }
+    ensures { λ _. ⌜ now (out .exit) ≡ put (now (out .entry)) 0 (contentBytes size n m s (now (marks .entry)) (now (store .entry))) ⌝ }
 {
     let mut row = 0;
     let mut j = 0;

@@ -4,56 +4,23 @@ use crate::answer::reason::Reason;
 use crate::format::header::Head;
 use crate::give::gather::content_hash;
 use crate::give::gather::copy_content;
+use crate::give::rebuild::rebuild_missing;
 use crate::session::lent::is_rebuild_wrong;
-use cauchy::Answer;
 ghost use mathlib.Core.Path.{_≡_};
-ghost use mathlib.Core.Bool.{true, false, cond, not, _||_};
-ghost use Prim.Native.Nat.{_*_, _≤_};
-ghost use lib.Dec.{ltb, eqb};
-ghost use lib.ListN.{length, take};
-ghost use Rattle.little.specs.Parts.{put};
+ghost use mathlib.Core.Bool.{false};
+ghost use Prim.Native.Nat.{_≤_};
+ghost use lib.ListN.{length};
 ghost use Rattle.blake3.specs.Tree as tree;
-ghost use Rattle.cauchy.specs.Decode.{decoded};
 ghost use Rattle.little.specs.Runs.{same};
-ghost use Rattle.sfc.specs.answer.Numbers.{Answered};
-ghost use Rattle.sfc.specs.session.Marks.{heldCount};
-ghost use Rattle.sfc.specs.session.Lent.{lentWrong, Lent, rebuildWrong};
-ghost use Rattle.sfc.specs.inner.Gather.{Rebuildable, Restored, Cut};
-ghost use Rattle.sfc.specs.give.HandOut.{Rebuilding, contentGiven, handOut};
+ghost use Rattle.sfc.specs.answer.Numbers.{answered};
+ghost use Rattle.sfc.specs.session.Lent.{lentOf, rebuildWrong};
+ghost use Rattle.sfc.specs.inner.Gather.{Restored, Cut, contentBytes, SameLengths, putIf};
+ghost use Rattle.sfc.specs.give.HandOut.{rebuilt, contentGiven, handOut};
 
 // Complete is said here and nowhere else, with the place where the content ends.
 pub enum HandedOut {
     Complete(BytePlace),
     Refused(Reason),
-}
-
-// The missing data blocks into scratch, and whether that could be done: with fewer than n held it cannot.
-pub(crate) fn rebuild_missing(
-    n: u32,
-    m: u32,
-    s: u32,
-    store: &[u8],
-    marks: &[u8],
-    scratch: &mut [u8],
-    numbers: &mut [u16],
-) -> bool
-    requires { ⌜ Rebuildable n m s (now store) (now marks) (now scratch) (now numbers) ⌝ }
-    ensures { λ r. ⌜ (r ≡ not (ltb (heldCount (now (marks .entry))) n)) × (r ≡ true → Restored n m s (now (marks .entry)) (now (store .entry)) (now (scratch .exit))) × (length (now (scratch .exit)) ≡ length (now (scratch .entry))) × (length (now (numbers .exit)) ≡ length (now (numbers .entry))) ⌝ }
-{
-    let rebuilt = cauchy::rebuild_all(
-        n as usize,
-        m as usize,
-        s as usize,
-        marks,
-        store,
-        scratch,
-        numbers,
-    );
-    match rebuilt {
-        Answer::Done => true,
-        Answer::TooFew => false,
-        Answer::BadShape => false,
-    }
 }
 
 // The content, once its hash is known to be the one given.
@@ -69,7 +36,7 @@ fn give_checked(
     out: &mut [u8],
 ) -> bool
     requires { ⌜ Cut size n s × Restored n m s (now marks) (now store) (now scratch) × (size ≤ length (now out)) ⌝ }
-    ensures { λ r. ⌜ (r ≡ same (tree.hash (take size (decoded n m s (now (marks .entry)) (now (store .entry))))) hash) × (now (out .exit) ≡ cond r (put (now (out .entry)) 0 (take size (decoded n m s (now (marks .entry)) (now (store .entry))))) (now (out .entry))) ⌝ }
+    ensures { λ r. ⌜ (r ≡ same (tree.hash (contentBytes size n m s (now (marks .entry)) (now (store .entry)))) hash) × (now (out .exit) ≡ putIf r (now (out .entry)) (contentBytes size n m s (now (marks .entry)) (now (store .entry)))) ⌝ }
 {
     let found = content_hash(size, n, m, s, marks, store, scratch);
     if !little::is_same(&found, &hash) {
@@ -79,7 +46,7 @@ fn give_checked(
     true
 }
 
-// Past 71 and 52.
+// The hand-out once 71 and 52 let it pass.
 fn give_content(
     h: Head,
     store: &[u8],
@@ -88,8 +55,8 @@ fn give_content(
     numbers: &mut [u16],
     out: &mut [u8],
 ) -> HandedOut
-    requires { ⌜ (rebuildWrong h (now store) (now marks) (record { scratch = now scratch; numbers = now numbers; output = now out }) ≡ false) × (h .size ≤ length (now out)) ⌝ }
-    ensures { λ r. ⌜ _≡_ {A = Answered HandedOut} (record { answer = r; output = now (out .exit) }) (contentGiven h (now (store .entry)) (now (marks .entry)) (now (out .entry))) × (length (now (scratch .exit)) ≡ length (now (scratch .entry))) × (length (now (numbers .exit)) ≡ length (now (numbers .entry))) ⌝ }
+    requires { ⌜ (rebuildWrong h (now store) (now marks) (lentOf (now scratch) (now numbers) (now out)) ≡ false) × (h .size ≤ length (now out)) ⌝ }
+    ensures { λ r. ⌜ (answered r (now (out .exit)) ≡ contentGiven h (now (store .entry)) (now (marks .entry)) (now (out .entry))) × SameLengths (now (scratch .entry)) (now (scratch .exit)) (now (numbers .entry)) (now (numbers .exit)) ⌝ }
 {
     if !rebuild_missing(h.n, h.m, h.s, store, marks, scratch, numbers) {
         return HandedOut::Refused(Reason::Few);
@@ -114,7 +81,7 @@ pub fn hand_out(
     numbers: &mut [u16],
     out: &mut [u8],
 ) -> HandedOut
-    ensures { λ r. ⌜ _≡_ {A = Rebuilding HandedOut} (record { answer = r; lent = record { scratch = now (scratch .exit); numbers = now (numbers .exit); output = now (out .exit) } }) (handOut h (now (store .entry)) (now (marks .entry)) (record { scratch = now (scratch .entry); numbers = now (numbers .entry); output = now (out .entry) })) ⌝ }
+    ensures { λ r. ⌜ rebuilt r (now (scratch .exit)) (now (numbers .exit)) (now (out .exit)) ≡ handOut h (now (store .entry)) (now (marks .entry)) (lentOf (now (scratch .entry)) (now (numbers .entry)) (now (out .entry))) ⌝ }
 {
     if is_rebuild_wrong(
         h.size,

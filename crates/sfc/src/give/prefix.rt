@@ -5,11 +5,12 @@ use crate::answer::reason::Reason;
 use crate::format::header::Head;
 use crate::session::lent::is_lent_wrong;
 ghost use mathlib.Core.Path.{_≡_};
-ghost use Rattle.sfc.specs.answer.Numbers.{Answered};
+ghost use Rattle.sfc.specs.answer.Numbers.{answered};
 ghost use Rattle.sfc.specs.give.Prefix.{leading, prefixGiven};
 
-// How many blocks or which block, and how many bytes or which byte; unverified, whatever else is known.
-pub enum Given {
+// How many data blocks are given, which is also the index of the first that is not (N where all are), and how many bytes that
+// is. It is unverified, whatever else is known.
+pub enum PrefixGiven {
     Unverified(BlockNumber, BytePlace),
     Refused(Reason),
 }
@@ -32,18 +33,18 @@ fn count_leading(marks: &[u8]) -> usize
 }
 
 // Only 71 and 52 refuse it. The output past the prefix stays as it was.
-pub fn prefix(h: Head, store: &[u8], marks: &[u8], out: &mut [u8]) -> Given
-    ensures { λ r. ⌜ _≡_ {A = Answered Given} (record { answer = r; output = now (out .exit) }) (prefixGiven h (now (store .entry)) (now (marks .entry)) (now (out .entry))) ⌝ }
+pub fn prefix(h: Head, store: &[u8], marks: &[u8], out: &mut [u8]) -> PrefixGiven
+    ensures { λ r. ⌜ answered r (now (out .exit)) ≡ prefixGiven h (now (store .entry)) (now (marks .entry)) (now (out .entry)) ⌝ }
 {
     if is_lent_wrong(h.size, h.n, h.m, h.s, store, marks) {
-        return Given::Refused(Reason::Lent);
+        return PrefixGiven::Refused(Reason::Lent);
     }
     let data = h.n as usize;
     let blocks = count_leading(&marks[..data]);
     let end = little::least(h.size as usize, blocks * h.s as usize);
     if out.len() < end {
-        return Given::Refused(Reason::OutputShort);
+        return PrefixGiven::Refused(Reason::OutputShort);
     }
     bytes::copy(&store[..end], out);
-    Given::Unverified(BlockNumber(blocks as u32), BytePlace(end as u32))
+    PrefixGiven::Unverified(BlockNumber(blocks as u32), BytePlace(end as u32))
 }

@@ -1,5 +1,6 @@
 // The parts of a written file, each put over the whole of a lent part of the output.
 use crate::format::chunk::type_for;
+use crate::format::layout::*;
 ghost use mathlib.Core.Path.{_≡_};
 ghost use mathlib.Core.Bool.{false};
 ghost use mathlib.Core.List.{_++_};
@@ -12,13 +13,37 @@ ghost use Rattle.sfc.specs.format.Bytes.{padded};
 ghost use Rattle.sfc.specs.session.Lent.{shapeWrong};
 ghost use Rattle.sfc.specs.writing.Writer.{erasureFor, identityBytes, shapeBytes, indexBytes, preamble, trailerBytes, chunkHeader, sealed, chunkBytes};
 
+// The identity is the region from its UUID up to N, with these places in it.
+const SIZE_PLACE: usize = SIZE_AT - UUID_AT;
+
+const FORMAT_PLACE: usize = FORMAT_AT - UUID_AT;
+
+const NAME_PLACE: usize = NAME_AT - UUID_AT;
+
+const HASH_PLACE: usize = HASH_AT - UUID_AT;
+
+const IDENTITY: usize = N_AT - UUID_AT;
+
+// The shape is the region from N up to the lists.
+const M_PLACE: usize = M_AT - N_AT;
+
+const S_PLACE: usize = S_AT - N_AT;
+
+const IDENTIFIERS_PLACE: usize = ERASURE_AT - N_AT;
+
+const FLAGS_PLACE: usize = FLAGS_AT - N_AT;
+
+const PRIORITIES_PLACE: usize = PRIORITIES_AT - N_AT;
+
+const LONGEST_BLOCK: usize = MOST_BLOCK as usize;
+
 pub(crate) fn erasure_for(m: u32) -> u8
     ensures { λ r. ⌜ r ≡ erasureFor m ⌝ }
 {
     if m == 0 { 0 } else { 1 }
 }
 
-// The bytes of b, and zeros behind them.
+// The bytes of b, and zeros after them.
 pub(crate) fn put_padded(b: &[u8], d: &mut [u8])
     requires { ⌜ length (now b) ≤ length (now d) ⌝ }
     ensures { λ _. ⌜ now (d .exit) ≡ padded (length (now (d .entry))) (now (b .entry)) ⌝ }
@@ -48,11 +73,11 @@ pub(crate) fn put_identity(
     requires { ⌜ (length (now d) ≡ 313) × (length (now name) ≤ 255) ⌝ }
     ensures { λ _. ⌜ now (d .exit) ≡ identityBytes uuid size format (now (name .entry)) digest ⌝ }
 {
-    bytes::copy(&uuid, &mut d[0..16]);
-    little::write64(d, 16, size);
-    little::write16(d, 24, format);
-    put_padded(name, &mut d[26..281]);
-    bytes::copy(&digest, &mut d[281..313]);
+    bytes::copy(&uuid, &mut d[0..UUID_ROOM]);
+    little::write64(d, SIZE_PLACE, size);
+    little::write16(d, FORMAT_PLACE, format);
+    put_padded(name, &mut d[NAME_PLACE..HASH_PLACE]);
+    bytes::copy(&digest, &mut d[HASH_PLACE..IDENTITY]);
 }
 
 pub(crate) fn put_shape(n: u32, m: u32, s: u32, flags: u16, p: u16, d: &mut [u8])
@@ -60,12 +85,12 @@ pub(crate) fn put_shape(n: u32, m: u32, s: u32, flags: u16, p: u16, d: &mut [u8]
     ensures { λ _. ⌜ now (d .exit) ≡ shapeBytes n m s flags p ⌝ }
 {
     little::write32(d, 0, n);
-    little::write32(d, 4, m);
-    little::write32(d, 8, s);
+    little::write32(d, M_PLACE, m);
+    little::write32(d, S_PLACE, s);
     let identifiers = [erasure_for(m), 0];
-    bytes::copy(&identifiers, &mut d[12..14]);
-    little::write16(d, 14, flags);
-    little::write16(d, 16, p);
+    bytes::copy(&identifiers, &mut d[IDENTIFIERS_PLACE..FLAGS_PLACE]);
+    little::write16(d, FLAGS_PLACE, flags);
+    little::write16(d, PRIORITIES_PLACE, p);
 }
 
 pub(crate) fn put_indices(list: &[u32], d: &mut [u8])
@@ -83,14 +108,17 @@ fn put_chunk_header(uuid: [u8; 16], n: u32, m: u32, s: u32, i: u32, d: &mut [u8]
     requires { ⌜ length (now d) ≡ 48 ⌝ }
     ensures { λ _. ⌜ now (d .exit) ≡ chunkHeader uuid n m s i ⌝ }
 {
-    bytes::copy(b"CHK\0", &mut d[0..4]);
-    bytes::copy(&uuid, &mut d[4..20]);
-    little::write32(d, 20, i);
-    little::write32(d, 24, type_for(n, i));
-    little::write32(d, 28, s);
+    bytes::copy(b"CHK\0", &mut d[0..CHUNK_UUID_AT]);
+    bytes::copy(&uuid, &mut d[CHUNK_UUID_AT..CHUNK_INDEX_AT]);
+    little::write32(d, CHUNK_INDEX_AT, i);
+    little::write32(d, CHUNK_TYPE_AT, type_for(n, i));
+    little::write32(d, CHUNK_LENGTH_AT, s);
     let identifiers = [0, erasure_for(m)];
-    bytes::copy(&identifiers, &mut d[32..34]);
-    little::clear8(&mut d[34..48]);
+    bytes::copy(
+        &identifiers,
+        &mut d[CHUNK_COMPRESSION_AT..CHUNK_RESERVED_AT],
+    );
+    little::clear8(&mut d[CHUNK_RESERVED_AT..CHUNK_HEADER]);
 }
 
 // The trailer of a chunk whose header and payload stand before it.
@@ -98,9 +126,9 @@ fn seal(c: &mut [u8])
     requires { ⌜ 36 ≤ length (now c) ⌝ }
     ensures { λ _. ⌜ now (c .exit) ≡ sealed (take (length (now (c .entry)) - 36) (now (c .entry))) ⌝ }
 {
-    let at = c.len() - 36;
+    let at = c.len() - CHUNK_TRAILER;
     let digest = blake3::hash(&c[..at]);
-    let end = at + 32;
+    let end = at + HASH_ROOM;
     bytes::copy(&digest, &mut c[at..end]);
     bytes::copy(b"/CHK", &mut c[end..]);
 }
@@ -109,9 +137,9 @@ fn put_chunk(uuid: [u8; 16], n: u32, m: u32, s: u32, i: u32, payload: &[u8], c: 
     requires { ⌜ length (now c) ≡ 84 + length (now payload) ⌝ }
     ensures { λ _. ⌜ now (c .exit) ≡ chunkBytes uuid n m s i (now (payload .entry)) ⌝ }
 {
-    put_chunk_header(uuid, n, m, s, i, &mut c[0..48]);
-    let end = c.len() - 36;
-    bytes::copy(payload, &mut c[48..end]);
+    put_chunk_header(uuid, n, m, s, i, &mut c[0..CHUNK_HEADER]);
+    let end = c.len() - CHUNK_TRAILER;
+    bytes::copy(payload, &mut c[CHUNK_HEADER..end]);
     seal(c);
 }
 
@@ -119,10 +147,10 @@ pub(crate) fn put_trailer(digest: [u8; 32], time: u64, d: &mut [u8])
     requires { ⌜ length (now d) ≡ 64 ⌝ }
     ensures { λ _. ⌜ now (d .exit) ≡ trailerBytes digest time ⌝ }
 {
-    bytes::copy(b"TRLR\0\0\0\0", &mut d[0..8]);
-    bytes::copy(&digest, &mut d[8..40]);
-    little::write64(d, 40, time);
-    little::clear8(&mut d[48..64]);
+    bytes::copy(b"TRLR\0\0\0\0", &mut d[0..TRAILER_HASH_AT]);
+    bytes::copy(&digest, &mut d[TRAILER_HASH_AT..TRAILER_TIME_AT]);
+    little::write64(d, TRAILER_TIME_AT, time);
+    little::clear8(&mut d[TRAILER_RESERVED_AT..TRAILER]);
 }
 
 // The data chunks before the last, whose payloads need no padding.
@@ -136,7 +164,7 @@ fn put_data_chunks(uuid: [u8; 16], n: u32, m: u32, s: u32, front: &[u8], d: &mut
     let mut at = 0;
     while i < most {
         let to = from + s as usize;
-        let end = at + 84 + s as usize;
+        let end = at + CHUNK_OUTER + s as usize;
         put_chunk(uuid, n, m, s, i, &front[from..to], &mut d[at..end]);
         i += 1;
         from = to;
@@ -158,8 +186,8 @@ fn put_recovery_chunk(
     requires { ⌜ (wrongShape n m s ≡ false) × (k < m) × (length (now front) ≡ (n - 1) * s) × (length (now last) ≡ s) × (length (now c) ≡ 84 + s) ⌝ }
     ensures { λ _. ⌜ now (c .exit) ≡ chunkBytes uuid n m s (n + k) (recoveryBlock n m s (now (front .entry) ++ now (last .entry)) k) ⌝ }
 {
-    put_chunk_header(uuid, n, m, s, n + k, &mut c[0..48]);
-    let end = c.len() - 36;
+    put_chunk_header(uuid, n, m, s, n + k, &mut c[0..CHUNK_HEADER]);
+    let end = c.len() - CHUNK_TRAILER;
     cauchy::recovery_of_parts(
         n as usize,
         m as usize,
@@ -167,7 +195,7 @@ fn put_recovery_chunk(
         k as usize,
         front,
         last,
-        &mut c[48..end],
+        &mut c[CHUNK_HEADER..end],
     );
     seal(c);
 }
@@ -187,7 +215,7 @@ fn put_recovery_chunks(
     let mut k: u32 = 0;
     let mut at = 0;
     while k < m {
-        let end = at + 84 + s as usize;
+        let end = at + CHUNK_OUTER + s as usize;
         put_recovery_chunk(uuid, n, m, s, k, front, last, &mut d[at..end]);
         k += 1;
         at = end;
@@ -199,7 +227,7 @@ fn put_all_chunks(uuid: [u8; 16], n: u32, m: u32, s: u32, front: &[u8], last: &[
     requires { ⌜ (wrongShape n m s ≡ false) × (length (now front) ≡ (n - 1) * s) × (length (now last) ≡ s) × (length (now d) ≡ (n + m) * (84 + s)) ⌝ }
     ensures { λ _. ⌜ now (d .exit) ≡ joined (λ i. chunkBytes uuid n m s i (codeBlock n m s (now (front .entry) ++ now (last .entry)) i)) 0 (n + m) ⌝ }
 {
-    let width = 84 + s as usize;
+    let width = CHUNK_OUTER + s as usize;
     let at = (n as usize - 1) * width;
     let end = at + width;
     put_data_chunks(uuid, n, m, s, front, &mut d[..at]);
@@ -232,6 +260,6 @@ pub(crate) fn put_chunks(uuid: [u8; 16], n: u32, m: u32, s: u32, content: &[u8],
     requires { ⌜ (shapeWrong (length (now content)) n m s ≡ false) × (length (now d) ≡ (n + m) * (84 + s)) ⌝ }
     ensures { λ _. ⌜ now (d .exit) ≡ joined (λ i. chunkBytes uuid n m s i (codeBlock n m s (padded (n * s) (now (content .entry))) i)) 0 (n + m) ⌝ }
 {
-    let mut last = [0u8; 4096];
+    let mut last = [0u8; LONGEST_BLOCK];
     put_chunks_with(uuid, n, m, s, content, &mut last, d);
 }

@@ -3,6 +3,7 @@ use crate::answer::reason::Reason;
 use crate::answer::written::Written;
 use crate::format::extension::are_fields_wrong;
 use crate::format::extension::has_reserved;
+use crate::format::layout::*;
 use crate::format::limits::are_flags_barred;
 use crate::format::limits::wanted_blocks;
 use crate::format::priority::is_distinct_below;
@@ -15,10 +16,21 @@ use crate::writing::parts::put_preamble;
 use crate::writing::parts::put_shape;
 use crate::writing::parts::put_trailer;
 ghost use mathlib.Core.Path.{_≡_};
-ghost use mathlib.Core.Bool.{false};
-ghost use lib.ListN.{length};
-ghost use Rattle.sfc.specs.answer.Numbers.{Answered};
-ghost use Rattle.sfc.specs.writing.Writer.{inputOf, blocks, region, fileOf, inputWrong, writeFile};
+ghost use Rattle.sfc.specs.answer.Numbers.{answered};
+ghost use Rattle.sfc.specs.writing.Writer.{inputOf, region, fileOf, inputWrong, writeFile};
+ghost use Rattle.sfc.specs.inner.Writing.{Ready};
+
+// Limits, in the types of what is held against them here.
+const MOST_BLOCKS: u64 = MOST_DATA as u64;
+
+const H_BESIDE_LISTS: usize = LEAST_H as usize;
+
+const LONGEST_H: usize = MOST_H as usize;
+
+// Bytes of a file before its header's lists, and beside those lists and the chunks.
+const FILE_BEFORE_LISTS: usize = REGION_AT + HEADER_BEFORE_LISTS;
+
+const FILE_BESIDE_LISTS_AND_CHUNKS: usize = FILE_BEFORE_LISTS + TRAILER;
 
 // What the caller says of a file, beside its content and the lists of its header: S and M, and fields that go in as given.
 pub struct FileFacts {
@@ -46,7 +58,7 @@ fn is_input_wrong(
         return true;
     }
     let blocks = wanted_blocks(size, s);
-    if 1024 < blocks {
+    if MOST_BLOCKS < blocks {
         return true;
     }
     if (blocks as usize) < priority.len() {
@@ -55,9 +67,9 @@ fn is_input_wrong(
     let n = blocks as u32;
     let m = facts.m;
     let flags = facts.flags;
-    let h = 331 + 4 * priority.len() + fields.len();
+    let h = H_BESIDE_LISTS + 4 * priority.len() + fields.len();
     is_name_wrong(name)
-        | (65536 < h)
+        | (LONGEST_H < h)
         | has_reserved(fields)
         | is_shape_wrong(size, n, m, s)
         | are_flags_barred(flags)
@@ -74,15 +86,22 @@ fn put_region(
     fields: &[u8],
     r: &mut [u8],
 )
-    requires { ⌜ (inputWrong (inputOf facts (now content) (now name) (now priority) (now fields)) ≡ false) × (n ≡ blocks (inputOf facts (now content) (now name) (now priority) (now fields))) × (length (now r) ≡ length (region (inputOf facts (now content) (now name) (now priority) (now fields)))) ⌝ }
+    requires { ⌜ Ready region (inputOf facts (now content) (now name) (now priority) (now fields)) n (now r) ⌝ }
     ensures { λ _. ⌜ now (r .exit) ≡ region (inputOf facts (now (content .entry)) (now (name .entry)) (now (priority .entry)) (now (fields .entry))) ⌝ }
 {
-    let h = r.len() - 4;
+    let h = r.len() - LENGTH_FIELD;
     little::write32(r, 0, h as u32);
     let digest = blake3::hash(content);
     let uuid = facts.uuid;
     let size = content.len() as u64;
-    put_identity(uuid, size, facts.format, name, digest, &mut r[4..317]);
+    put_identity(
+        uuid,
+        size,
+        facts.format,
+        name,
+        digest,
+        &mut r[UUID_AT..N_AT],
+    );
     let count = priority.len();
     put_shape(
         n,
@@ -90,10 +109,10 @@ fn put_region(
         facts.s,
         facts.flags,
         count as u16,
-        &mut r[317..335],
+        &mut r[N_AT..HEADER_BEFORE_LISTS],
     );
-    let end = 335 + 4 * count;
-    put_indices(priority, &mut r[335..end]);
+    let end = HEADER_BEFORE_LISTS + 4 * count;
+    put_indices(priority, &mut r[HEADER_BEFORE_LISTS..end]);
     bytes::copy(fields, &mut r[end..]);
 }
 
@@ -107,13 +126,13 @@ fn put_file(
     fields: &[u8],
     out: &mut [u8],
 )
-    requires { ⌜ (inputWrong (inputOf facts (now content) (now name) (now priority) (now fields)) ≡ false) × (n ≡ blocks (inputOf facts (now content) (now name) (now priority) (now fields))) × (length (now out) ≡ length (fileOf (inputOf facts (now content) (now name) (now priority) (now fields)))) ⌝ }
+    requires { ⌜ Ready fileOf (inputOf facts (now content) (now name) (now priority) (now fields)) n (now out) ⌝ }
     ensures { λ _. ⌜ now (out .exit) ≡ fileOf (inputOf facts (now (content .entry)) (now (name .entry)) (now (priority .entry)) (now (fields .entry))) ⌝ }
 {
-    let start = 343 + 4 * priority.len() + fields.len();
-    let end = out.len() - 64;
+    let start = FILE_BEFORE_LISTS + 4 * priority.len() + fields.len();
+    let end = out.len() - TRAILER;
     let uuid = facts.uuid;
-    put_preamble(&mut out[0..8]);
+    put_preamble(&mut out[0..PREAMBLE]);
     put_region(
         facts,
         n,
@@ -121,14 +140,14 @@ fn put_file(
         name,
         priority,
         fields,
-        &mut out[8..start],
+        &mut out[REGION_AT..start],
     );
-    let digest = blake3::hash(&out[8..start]);
+    let digest = blake3::hash(&out[REGION_AT..start]);
     put_chunks(uuid, n, facts.m, facts.s, content, &mut out[start..end]);
     put_trailer(digest, facts.time, &mut out[end..]);
 }
 
-// The file that the inputs make, at the output's front. What lies behind it stays.
+// The file that the inputs make, at the output's front. What lies after it stays.
 pub fn write(
     facts: FileFacts,
     content: &[u8],
@@ -137,15 +156,15 @@ pub fn write(
     fields: &[u8],
     out: &mut [u8],
 ) -> Written
-    ensures { λ r. ⌜ _≡_ {A = Answered Written} (record { answer = r; output = now (out .exit) }) (writeFile (inputOf facts (now (content .entry)) (now (name .entry)) (now (priority .entry)) (now (fields .entry))) (now (out .entry))) ⌝ }
+    ensures { λ r. ⌜ answered r (now (out .exit)) ≡ writeFile (inputOf facts (now (content .entry)) (now (name .entry)) (now (priority .entry)) (now (fields .entry))) (now (out .entry)) ⌝ }
 {
     if is_input_wrong(facts, content, name, priority, fields) {
         return Written::Refused(Reason::WriterInput);
     }
     let n = wanted_blocks(content.len() as u64, facts.s) as u32;
-    let chunk = 84 + facts.s as usize;
+    let chunk = CHUNK_OUTER + facts.s as usize;
     let chunks = (n as usize + facts.m as usize) * chunk;
-    let length = 407 + 4 * priority.len() + fields.len() + chunks;
+    let length = FILE_BESIDE_LISTS_AND_CHUNKS + 4 * priority.len() + fields.len() + chunks;
     if out.len() < length {
         return Written::Refused(Reason::WriterOutput);
     }

@@ -5,7 +5,7 @@ use lib.ListN.{length}
 use borrow.Author.Needs.{needs}
 use Rattle.sfc.proofs.format.chunk.check_against_head.Statement.{statement}
 use Rattle.sfc.proofs.format.chunk.check_against_head.Tie as tie
-use Rattle.sfc.proofs.answer.CheckLaws.{Then·simp}
+use Rattle.sfc.proofs.answer.CheckLaws.{in-order}
 
 stands-at-requires : tie.Need-stands-at-requires
 stands-at-requires c κs = let l : length (c .before .before .before .args .h .uuid) ≡ 16 = search needs in omega (arith, l)
@@ -26,7 +26,7 @@ returns c = simp (
   c .before .before .before .before .before .before .before .before .before .before .before .before .before .before .before .read32 .ensures,
   c .before .before .before .before .before .before .before .before .before .before .before .before .before .before .before .before .before .before .index-of .ensures,
   c .before .before .before .before .before .before .before .before .before .before .before .before .before .before .before .before .before .before .before .stands-at .ensures,
-  Then·simp,
+  in-order,
 )
 
 pub check-against-head-spec : {M : Type 1} → statement M

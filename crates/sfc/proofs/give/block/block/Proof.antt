@@ -5,7 +5,8 @@ use borrow.Author.Tests.{lt-ltb, le-ltb, le-leb, lt-leb}
 use lib.ListN.{length}
 use Rattle.little.proofs.PartLaws.{block-inside}
 use Rattle.little.specs.Runs.{zeros}
-use Rattle.sfc.proofs.give.HandOutLaws.{rebuild-told, right-rebuild, cut-right, blocked-wrong, blocked-none, blocked-short, blocked-few, blocked-given}
+use Rattle.sfc.proofs.give.BlockLaws.{blocked-wrong, blocked-none, blocked-short, blocked-few, blocked-given}
+use Rattle.sfc.proofs.give.RebuildLaws.{rebuild-told, right-rebuild, cut-right}
 use borrow.Author.Needs.{needs}
 use Rattle.sfc.proofs.give.block.block.Statement.{statement}
 use Rattle.sfc.proofs.give.block.block.Tie as tie
@@ -26,7 +27,7 @@ returns-4 : tie.Need-returns-4
 returns-4 c =
     let a = c .before .before .before .before .before .before .before .before .before .before .before .before .before .before .before .before .before .before .before .before .before .before .before .before .before .before .before .before .before .before in
     blocked-few (a .args .h) (a .args .store .now) (a .args .marks .now) (a .args .number .0) (record { scratch = a .args .scratch .now; numbers = a .args .numbers .now; output = a .args .out .now }) (rebuild-told (a .args .h) (a .args .store .now) (a .args .marks .now) (record { scratch = a .args .scratch .now; numbers = a .args .numbers .now; output = a .args .out .now }) _ _ (c .before .before .before .before .before .before .before .before .before .before .before .before .before .before .before .before .before .before .before .before .before .before .before .before .is-rebuild-wrong .ensures) (c .before .before .before .before .before .before .before .before .before .before .before .before .before .before .before .before .before .before .before .before .before .before .before .if1 .left)) (lt-leb (a .args .h .n) (a .args .number .0) (omega (arith, c .before .before .before .before .before .before .before .before .before .before .before .before .before .before .before .before .before .before .before .before .before .if2 .left))) (le-ltb (length (a .args .out .now)) (a .args .h .s) (omega (arith, c .before .before .before .before .before .before .before .before .before .before .before .before .before .before .before .before .before .before .before .if3 .left))) _ _ _
-    (c .before .before .before .before .before .before .before .clear8 .ensures ∙ ap zeros (c .before .before .before .before .before .before .before .before .before .before .before .before .before .before .before .give-block .ensures .2)) (c .before .before .before .clear16 .ensures ∙ ap zeros (c .before .before .before .before .before .before .before .before .before .before .before .before .before .before .before .give-block .ensures .3))
+    (c .before .before .before .before .before .before .before .clear8 .ensures ∙ ap zeros (c .before .before .before .before .before .before .before .before .before .before .before .before .before .before .before .give-block .ensures .2 .0)) (c .before .before .before .clear16 .ensures ∙ ap zeros (c .before .before .before .before .before .before .before .before .before .before .before .before .before .before .before .give-block .ensures .2 .1))
     _ (c .if4 .taken) (c .before .before .before .before .before .before .before .before .before .before .before .before .before .before .before .give-block .ensures .0) (c .before .before .before .before .before .before .before .before .before .before .before .before .before .before .before .give-block .ensures .1)
 
 mul-t30 : tie.Need-mul-t30
@@ -40,7 +41,7 @@ returns-5 : tie.Need-returns-5
 returns-5 c =
     let a = c .before .before .before .before .before .before .before .before .before .before .before .before .before .before .before .before .before .before .before .before .before .before .before .before .before .before .before .before .before .before .before in
     blocked-given (a .args .h) (a .args .store .now) (a .args .marks .now) (a .args .number .0) (record { scratch = a .args .scratch .now; numbers = a .args .numbers .now; output = a .args .out .now }) (rebuild-told (a .args .h) (a .args .store .now) (a .args .marks .now) (record { scratch = a .args .scratch .now; numbers = a .args .numbers .now; output = a .args .out .now }) _ _ (c .before .before .before .before .before .before .before .before .before .before .before .before .before .before .before .before .before .before .before .before .before .before .before .before .before .is-rebuild-wrong .ensures) (c .before .before .before .before .before .before .before .before .before .before .before .before .before .before .before .before .before .before .before .before .before .before .before .before .if1 .left)) (lt-leb (a .args .h .n) (a .args .number .0) (omega (arith, c .before .before .before .before .before .before .before .before .before .before .before .before .before .before .before .before .before .before .before .before .before .before .if2 .left))) (le-ltb (length (a .args .out .now)) (a .args .h .s) (omega (arith, c .before .before .before .before .before .before .before .before .before .before .before .before .before .before .before .before .before .before .before .before .if3 .left))) _ _ _
-    (c .before .before .before .before .before .before .before .before .clear8 .ensures ∙ ap zeros (c .before .before .before .before .before .before .before .before .before .before .before .before .before .before .before .before .give-block .ensures .2)) (c .before .before .before .before .clear16 .ensures ∙ ap zeros (c .before .before .before .before .before .before .before .before .before .before .before .before .before .before .before .before .give-block .ensures .3))
+    (c .before .before .before .before .before .before .before .before .clear8 .ensures ∙ ap zeros (c .before .before .before .before .before .before .before .before .before .before .before .before .before .before .before .before .give-block .ensures .2 .0)) (c .before .before .before .before .clear16 .ensures ∙ ap zeros (c .before .before .before .before .before .before .before .before .before .before .before .before .before .before .before .before .give-block .ensures .2 .1))
     _ (c .before .if4 .left) (c .before .before .before .before .before .before .before .before .before .before .before .before .before .before .before .before .give-block .ensures .0) (c .before .before .before .before .before .before .before .before .before .before .before .before .before .before .before .before .give-block .ensures .1)
 
 pub block-spec : {M : Type 1} → statement M

@@ -1,6 +1,7 @@
 -- `sfc::give::hand_out::give_content` meets its contract, by its three answers. Assumes nothing.
 use borrow.Author.Tests.{not-false}
-use Rattle.sfc.proofs.give.HandOutLaws.{right-rebuild, cut-right, size-small, few-told, enough-told, given-few, given-not, given-all}
+use Rattle.sfc.proofs.give.HandOutLaws.{size-small, given-few, given-not, given-all}
+use Rattle.sfc.proofs.give.RebuildLaws.{right-rebuild, cut-right, few-told, enough-told}
 use borrow.Author.Needs.{needs}
 use Rattle.sfc.proofs.give.hand_out.give_content.Statement.{statement}
 use Rattle.sfc.proofs.give.hand_out.give_content.Tie as tie
@@ -9,7 +10,7 @@ rebuild-missing-requires : tie.Need-rebuild-missing-requires
 rebuild-missing-requires c κs = let a = c .before .before .before .before .before .before .before in right-rebuild (a .args .h) (a .args .store .now) (a .args .marks .now) (record { scratch = a .args .scratch .now; numbers = a .args .numbers .now; output = a .args .out .now }) (a .pre .0) .able
 
 returns : tie.Need-returns
-returns c = let a = c .before .before .before .before .before .before .before .before .before .before .before .before .before in (given-few (a .args .h) (a .args .store .now) (a .args .marks .now) (a .args .out .now) (few-told _ _ (c .if1 .taken) (c .before .before .before .before .before .rebuild-missing .ensures .0)), c .before .before .before .before .before .rebuild-missing .ensures .2, c .before .before .before .before .before .rebuild-missing .ensures .3)
+returns c = let a = c .before .before .before .before .before .before .before .before .before .before .before .before .before in (given-few (a .args .h) (a .args .store .now) (a .args .marks .now) (a .args .out .now) (few-told _ _ (c .if1 .taken) (c .before .before .before .before .before .rebuild-missing .ensures .0)), c .before .before .before .before .before .rebuild-missing .ensures .2)
 
 give-checked-requires : tie.Need-give-checked-requires
 give-checked-requires c κs =
@@ -20,7 +21,7 @@ give-checked-requires c κs =
 returns-2 : tie.Need-returns-2
 returns-2 c =
     let a = c .before .before .before .before .before .before .before .before .before .before .before .before .before .before .before .before .before .before .before .before .before .before .before in
-    (given-not (a .args .h) (a .args .store .now) (a .args .marks .now) (a .args .out .now) (enough-told _ _ (c .before .before .before .before .before .before .before .before .before .before .if1 .left) (c .before .before .before .before .before .before .before .before .before .before .before .before .before .before .before .rebuild-missing .ensures .0)) _ _ (c .if2 .taken) (c .before .before .before .give-checked .ensures .0) (c .before .before .before .give-checked .ensures .1), c .before .before .before .before .before .before .before .before .before .before .before .before .before .before .before .rebuild-missing .ensures .2, c .before .before .before .before .before .before .before .before .before .before .before .before .before .before .before .rebuild-missing .ensures .3)
+    (given-not (a .args .h) (a .args .store .now) (a .args .marks .now) (a .args .out .now) (enough-told _ _ (c .before .before .before .before .before .before .before .before .before .before .if1 .left) (c .before .before .before .before .before .before .before .before .before .before .before .before .before .before .before .rebuild-missing .ensures .0)) _ _ (c .if2 .taken) (c .before .before .before .give-checked .ensures .0) (c .before .before .before .give-checked .ensures .1), c .before .before .before .before .before .before .before .before .before .before .before .before .before .before .before .rebuild-missing .ensures .2)
 
 cast-t24 : tie.Need-cast-t24
 cast-t24 c =
@@ -31,7 +32,7 @@ cast-t24 c =
 returns-3 : tie.Need-returns-3
 returns-3 c =
     let a = c .before .before .before .before .before .before .before .before .before .before .before .before .before .before .before .before .before .before .before .before .before .before .before in
-    (given-all (a .args .h) (a .args .store .now) (a .args .marks .now) (a .args .out .now) (enough-told _ _ (c .before .before .before .before .before .before .before .before .before .before .if1 .left) (c .before .before .before .before .before .before .before .before .before .before .before .before .before .before .before .rebuild-missing .ensures .0)) _ _ (c .if2 .left) (c .before .before .before .give-checked .ensures .0) (c .before .before .before .give-checked .ensures .1), c .before .before .before .before .before .before .before .before .before .before .before .before .before .before .before .rebuild-missing .ensures .2, c .before .before .before .before .before .before .before .before .before .before .before .before .before .before .before .rebuild-missing .ensures .3)
+    (given-all (a .args .h) (a .args .store .now) (a .args .marks .now) (a .args .out .now) (enough-told _ _ (c .before .before .before .before .before .before .before .before .before .before .if1 .left) (c .before .before .before .before .before .before .before .before .before .before .before .before .before .before .before .rebuild-missing .ensures .0)) _ _ (c .if2 .left) (c .before .before .before .give-checked .ensures .0) (c .before .before .before .give-checked .ensures .1), c .before .before .before .before .before .before .before .before .before .before .before .before .before .before .before .rebuild-missing .ensures .2)
 
 pub give-content-spec : {M : Type 1} → statement M
 give-content-spec =

@@ -1,4 +1,4 @@
--- `sfc::writing::parts::seal` meets its contract: the hash, and the end marker behind it. Assumes nothing.
+-- `sfc::writing::parts::seal` meets its contract: the hash, and the end marker after it. Assumes nothing.
 use mathlib.Core.Path.{_≡_, refl, sym}
 use lib.ListN.{length}
 use native.Mathlib.Omega.{arith}
