@@ -15,7 +15,8 @@ use Rattle.little.proofs.PartLaws.{length-put, part-put, part-put-apart}
 use mathlib.Core.Logic.{inl}
 use Rattle.blake3.specs.Compress.{compressed, folded}
 use Rattle.blake3.specs.Tree.{piece, parent, tree, hash}
-use Rattle.blake3.specs.Running.{mostFed, slot, pushed, rootFlag, joinedAt, closed, isFull, settled, withByte, withBytes, fresh, fedWith, piecesDone, ending, refusedFinish, finished, hashedTwo, fedAll, AllTaken, joined, RunningAnyCut, FedBytes}
+use Rattle.blake3.specs.Stack.{slot, pushed, rootFlag, joinedAt, closed, isFull, settled, piecesDone, ending}
+use Rattle.blake3.specs.Running.{mostFed, withByte, withBytes, fresh, fedWith, refusedFinish, finished, hashedTwo, fedAll, AllTaken, joined, RunningAnyCut, FedBytes}
 use Rattle.blake3.specs.declared.running.Running.{Running}
 use Rattle.blake3.specs.declared.running.Fed.{Fed}
 use Rattle.blake3.specs.declared.running.Finished.{Finished}
@@ -131,7 +132,7 @@ even-waits f h t i s xs z r =
     let e : i - t % 2 * 2 ^ h ≡ i = omega arith in
     waits-eq f (suc h) s xs refl e (r .1)
 
--- the tree at height h, and the one that is pushed behind it
+-- the tree at height h, and the one that is pushed after it
 carried : (h i : ℕ) (s xs cv : List ℕ) → 2 ^ h ≤ i → (i + 2 ^ h) * 1024 ≤ length xs → slot h s ≡ whole h (i - 2 ^ h) xs → cv ≡ whole h i xs
     → parent 0 (slot h s) cv ≡ whole (suc h) (i - 2 ^ h) xs
 carried h i s xs cv g le el ec =

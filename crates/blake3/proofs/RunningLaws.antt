@@ -13,7 +13,8 @@ use mathlib.Core.List.{List, [], _∷_, _++_, append-assoc}
 use Rattle.little.specs.Parts.{put}
 use Rattle.blake3.specs.Compress.{bytesOfWords}
 use Rattle.blake3.specs.Tree.{piece}
-use Rattle.blake3.specs.Running.{mostFed, pushed, closed, rootFlag, isFull, settled, withByte, withBytes, fedWith, piecesDone, ending, refusedFinish, finished}
+use Rattle.blake3.specs.Stack.{pushed, closed, rootFlag, isFull, settled, piecesDone, ending}
+use Rattle.blake3.specs.Running.{mostFed, withByte, withBytes, fedWith, refusedFinish, finished}
 use Rattle.blake3.specs.declared.running.Running.{Running}
 use Rattle.blake3.specs.declared.running.Fed.{Fed}
 use Rattle.blake3.specs.declared.running.Finished.{Finished}
@@ -109,10 +110,10 @@ with-both r [] q = refl
 with-both r (x ∷ p) q = with-both (withByte r x) p q
 
 -- a turn of the loop: what is left to do, done to the present record, gives the promised one
-pub fed-turn : (xs s part : List ℕ) (fed at n : ℕ) (final : Running) {xs′ s′ : List ℕ} → length xs ≡ 1024 → 0 < n → fed % 1024 + n ≤ 1024
+pub fed-more : (xs s part : List ℕ) (fed at n : ℕ) (final : Running) {xs′ s′ : List ℕ} → length xs ≡ 1024 → 0 < n → fed % 1024 + n ≤ 1024
     → at + n ≤ length part → s′ ≡ settled fed xs s → xs′ ≡ put xs (fed % 1024) (take (at + n - at) (drop at part))
     → withBytes (state xs fed s) (drop at part) ≡ final → withBytes (state xs′ (fed + n) s′) (drop (at + n) part) ≡ final
-fed-turn xs s part fed at n final {xs′} {s′} lx pos room le es ex inv =
+fed-more xs s part fed at n final {xs′} {s′} lx pos room le es ex inv =
     let m : at + n - at ≡ n = omega arith in
     let u : n ≤ length (drop at part) = omega (arith, length-drop at part) in
     let p = take n (drop at part) in

@@ -15,7 +15,7 @@ use Rattle.little.specs.Parts.{put}
 use Rattle.little.proofs.PartLaws.{lent}
 use Rattle.blake3.specs.Compress.{at}
 use Rattle.blake3.specs.Tree.{parent}
-use Rattle.blake3.specs.Running.{slot, pushed, rootFlag, joinedAt, closed}
+use Rattle.blake3.specs.Stack.{slot, pushed, rootFlag, joinedAt, closed}
 use Rattle.blake3.proofs.Splits.{pow-suc, either}
 
 -- n elements of a list, from index j + k on
@@ -54,10 +54,10 @@ slot-written j l a b c d e f g h le =
     (sets-eq vs l j le ∙ append-assoc (take j l) vs (drop (j + 8) l) ∙ ap (λ (r : List ℕ). take j l ++ (vs ++ r)) (sym (drop-drop 8 j l)))
 
 -- a part copied over as many bytes, from a place on
-pub place-made : (at : ℕ) (xs p ys : List ℕ) → at + length p ≤ length xs
+pub put-made : (at : ℕ) (xs p ys : List ℕ) → at + length p ≤ length xs
     → ys ≡ take (length p) p ++ drop (length p) (take (at + length p - at) (drop at xs))
     → take at xs ++ (ys ++ drop (at + length p - at) (drop at xs)) ≡ put xs at p
-place-made at xs p ys le ey =
+put-made at xs p ys le ey =
     let e : at + length p - at ≡ length p = omega arith in
     let u : length p ≤ length (drop at xs) = omega (arith, length-drop at xs) in
     let v : length (take (length p) (drop at xs)) ≤ length p = omega (arith, length-take-le (length p) (drop at xs) u) in

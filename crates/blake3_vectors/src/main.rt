@@ -15,7 +15,7 @@ fn print_hash(hash: [u8; 32]) {
     io::write_all(1, b"\n");
 }
 
-fn print_number(n: usize) {
+fn print_length(n: usize) {
     io::print_decimal(1, n as u64);
     io::write_all(1, b" ");
 }
@@ -65,7 +65,7 @@ fn in_place(text: &[u8], cut: usize) -> [u8; 32] {
 
 fn at_once(text: &[u8], n: usize) {
     if n <= text.len() {
-        print_number(n);
+        print_length(n);
         print_hash(blake3::hash(&text[..n]));
     }
 }
@@ -74,11 +74,11 @@ fn in_parts(text: &[u8], n: usize, cut: usize)
     requires { ⌜ 0 < cut ⌝ }
 {
     if n <= text.len() {
-        print_number(n);
-        print_number(cut);
+        print_length(n);
+        print_length(cut);
         print_hash(by_value(&text[..n], cut));
-        print_number(n);
-        print_number(cut);
+        print_length(n);
+        print_length(cut);
         print_hash(in_place(&text[..n], cut));
     }
 }
