@@ -3,7 +3,7 @@ use native.Mathlib.Omega.{arith}
 use mathlib.Core.Path.{_≡_, refl, _∙_}
 use Prim.Native.Nat.{_+_, _-_, _≤_}
 use lib.ListN.{length, drop}
-use Rattle.blake3.proofs.RunningLaws.{state, fed-more, fed-end}
+use Rattle.blake3.proofs.FeedLaws.{state, fed-more, fed-end}
 use Rattle.blake3.specs.Running.{withBytes}
 use borrow.Author.Needs.{needs}
 use Rattle.blake3.proofs.running.Running.with_part.Statement.{statement}
