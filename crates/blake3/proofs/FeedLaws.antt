@@ -2,11 +2,11 @@
 -- fits into the piece, the two answers of each method. Assumes nothing.
 use mathlib.Core.Path.{_≡_, refl, sym, ap, _∙_}
 use mathlib.Core.Bool.{Bool, true, false, not, _&&_}
-use Prim.Native.Nat.{ℕ, suc, _+_, _-_, _*_, _/_, _%_, _<_, _≤_}
+use Prim.Native.Nat.{ℕ, suc, _+_, _-_, _*_, _/_, _%_, _<_, _≤_, min}
 use native.Mathlib.Omega.{arith}
-use native.Mathlib.Nat.{add-zero}
-use borrow.Author.Tests.{ne-eqb, eqb-true, eqb-false, ltb-false, not-true}
-use lib.Dec.{ltb, eqb}
+use native.Mathlib.Nat.{add-zero, min-eq-left, min-comm}
+use borrow.Author.Tests.{ne-eqb, eqb-true, eqb-false, ltb-false, leb-true, leb-false, not-true}
+use lib.Dec.{leb, ltb, eqb}
 use lib.ListN.{set, length, take, drop, length-set, length-drop, take-append-drop, drop-of-length-le}
 use lib.Seq.{take-suc-set, drop-set-lt, drop-drop, length-take-le}
 use mathlib.Core.List.{List, [], _∷_, _++_, append-assoc}
@@ -20,6 +20,7 @@ use Rattle.blake3.specs.declared.running.Fed.{Fed}
 use Rattle.blake3.specs.declared.running.Finished.{Finished}
 use Rattle.blake3.specs.declared.running.Answer.the-variants.{Done, Refused}
 use Rattle.blake3.specs.declared.running.Reason.the-variants.{RunningHash}
+use Rattle.blake3.proofs.Splits.{either}
 use Rattle.blake3.proofs.RunningLaws.{with-both}
 
 -- ---- a full piece
@@ -104,6 +105,12 @@ run-from (x ∷ p) xs s fed lx pos le =
     let ih = run p (set xs (fed % 1024) x) (settled fed xs s) (fed % 1024 + 1) (fed + 1) (omega arith) (omega arith) (omega arith) more in
     let m : fed + 1 + length p ≡ fed + suc (length p) = omega arith in
     ih ∙ state-eq (put-one-more xs (fed % 1024) x p lt) m refl
+
+-- where both have room for a byte, so has the smaller of them
+pub some-room : (a b : ℕ) {n : ℕ} → n ≡ min a b → 0 < a → 0 < b → 0 < n
+some-room a b e pa pb = either (leb a b)
+    (λ t. rw (e ∙ min-eq-left (leb-true a b t)) pa)
+    (λ t. let lt = leb-false a b t in let le : b ≤ a = omega arith in rw (e ∙ min-comm a b ∙ min-eq-left le) pb)
 
 -- a turn of the loop: what is left to do, done to the present record, gives the promised one
 pub fed-more : (xs s part : List ℕ) (fed at n : ℕ) (final : Running) {xs′ s′ : List ℕ} → length xs ≡ 1024 → 0 < n → fed % 1024 + n ≤ 1024

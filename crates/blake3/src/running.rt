@@ -66,13 +66,6 @@ fn settle(bytes: &[u8], fed: u64, stack: &mut [u32])
     }
 }
 
-// A number that neither exceeds, and that is 0 only if one of them is.
-fn least(a: usize, b: usize) -> usize
-    ensures { λ r. ⌜ (r ≤ a) × (r ≤ b) × (0 < a → 0 < b → 0 < r) ⌝ }
-{
-    if a < b { a } else { b }
-}
-
 // Copies a part over as many bytes, from a place on.
 fn put_part(bytes: &mut [u8], at: usize, part: &[u8])
     requires { ⌜ at + length (now part) ≤ length (now bytes) ⌝ }
@@ -146,7 +139,7 @@ impl Running {
         while 0 < part.len() - at {
             settle(&piece, fed, &mut stack);
             let used = (fed % PIECE) as usize;
-            let n = least(PIECE_LENGTH - used, part.len() - at);
+            let n = little::least(PIECE_LENGTH - used, part.len() - at);
             put_part(&mut piece, used, &part[at..at + n]);
             fed += n as u64;
             at += n;
