@@ -24,10 +24,10 @@ pub min-right : (a b : ℕ) → b ≤ a → min a b ≡ b
 min-right a b h = min-comm a b ∙ min-eq-left h
 
 -- which of the two it is
-pub either-least : (r a b : ℕ) → r ≡ min a b → ((r ≡ a) × (r ≤ b)) ⊎ ((r ≡ b) × (r ≤ a))
-either-least r a b e =
-    ⊎-elim (λ (h : a < b). let f = e ∙ min-left a b (omega arith) in inl (f, omega arith))
-    (λ (h : b ≤ a). let f = e ∙ min-right a b h in inr (f, omega arith))
+pub either-least : {r a b : ℕ} → (r ≡ min a b) × (r ≤ a) × (r ≤ b) → ((r ≡ a) × (r ≤ b)) ⊎ ((r ≡ b) × (r ≤ a))
+either-least {a = a} {b = b} h =
+    ⊎-elim (λ (l : a < b). inl (h .0 ∙ min-left a b (omega arith), h .2))
+    (λ (l : b ≤ a). inr (h .0 ∙ min-right a b l, h .1))
     (below-or a b)
 
 -- so many elements from the front are a part of that length

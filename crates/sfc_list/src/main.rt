@@ -1,7 +1,7 @@
 // Reads a file from standard input and prints its listing.
 use libc::STDIN_FILENO;
 use libc::STDOUT_FILENO;
-use sfc::written::Written;
+use sfc::Written;
 use sfc_listing::listing::listing;
 ghost use Rattle.io.specs.Counts.{Counts};
 

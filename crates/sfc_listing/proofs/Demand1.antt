@@ -8,18 +8,18 @@ use borrow.Author.Tests.{ltb-false}
 use lib.Dec.{eqb, lit≤}
 use lib.ListN.{length}
 use Rattle.little.specs.Parts.{put}
-use Rattle.sfc.specs.Bytes.{any}
-use Rattle.sfc.specs.Numbers.{Check, checked, verdict, reasonOf, numberOf}
-use Rattle.sfc.specs.Demand1.{Leaves, Ends}
-use Rattle.sfc.specs.Header.{regionOf, headOf}
-use Rattle.sfc.specs.HandOut.{contentChecks}
-use Rattle.sfc.specs.Session.{Session}
-use Rattle.sfc.specs.declared.header.Head.{Head}
-use Rattle.sfc.specs.declared.reason.Reason.{Reason}
-use Rattle.sfc.specs.declared.reason.Checked.{Checked}
-use Rattle.sfc.specs.declared.reason.Checked.the-variants.{Good, Refused as Bad}
-use Rattle.sfc.specs.declared.written.Written.{Written}
-use Rattle.sfc.specs.declared.written.Written.the-variants.{Bytes, Refused}
+use Rattle.little.specs.Runs.{any}
+use Rattle.sfc.specs.answer.Numbers.{Check, checked, verdict, reasonOf, numberOf}
+use Rattle.sfc.specs.demand.Demand1.{Leaves, Ends}
+use Rattle.sfc.specs.format.Header.{regionOf, headOf}
+use Rattle.sfc.specs.give.HandOut.{contentChecks}
+use Rattle.sfc.specs.session.Session.{Session}
+use Rattle.sfc.specs.declared.format.header.Head.{Head}
+use Rattle.sfc.specs.declared.answer.reason.Reason.{Reason}
+use Rattle.sfc.specs.declared.answer.reason.Checked.{Checked}
+use Rattle.sfc.specs.declared.answer.reason.Checked.the-variants.{Good, Refused as Bad}
+use Rattle.sfc.specs.declared.answer.written.Written.{Written}
+use Rattle.sfc.specs.declared.answer.written.Written.the-variants.{Bytes, Refused}
 use Rattle.sfc_listing.specs.Text.{text}
 use Rattle.sfc_listing.specs.Listing.{sessionOf, lastWord, sessionText, programChecks, refusedText, listingOf, Desk, cleared, listingChecks, listed}
 use Rattle.sfc_listing.specs.Demand1.{ListingDemand}

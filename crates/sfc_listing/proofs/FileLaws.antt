@@ -11,18 +11,18 @@ use lib.ListN.{length, take}
 use lib.Seq.{length-take-le}
 use Rattle.little.specs.Parts.{part}
 use Rattle.little.proofs.TestLaws.{or-false}
-use Rattle.sfc.specs.Bytes.{zeros}
-use Rattle.sfc.specs.Numbers.{verdict, numberOf}
-use Rattle.sfc.specs.Header.{lengthField, regionOf, headOf, headerChecks, refusedHeader, acceptedHeader, readHeader}
+use Rattle.little.specs.Runs.{zeros}
+use Rattle.sfc.specs.answer.Numbers.{verdict, numberOf}
+use Rattle.sfc.specs.format.Header.{lengthField, regionOf, headOf, headerChecks, refusedHeader, acceptedHeader, readHeader}
 use Rattle.sfc_listing.specs.Listing.{between, sessionOf, sessionText, refusedText, listingOf, Desk, deskWrong, cleared, Listed, listed}
 use Rattle.sfc_listing.specs.Steps.{Printed, walked, acceptedText, Ready}
-use Rattle.sfc.specs.declared.header.Head.{Head}
-use Rattle.sfc.specs.declared.header.HeaderRead.{HeaderRead}
-use Rattle.sfc.specs.declared.reason.Reason.{Reason}
-use Rattle.sfc.specs.declared.reason.Reason.the-variants.{Lent, OutputShort}
-use Rattle.sfc.specs.declared.reason.Checked.{Checked}
-use Rattle.sfc.specs.declared.reason.Checked.the-variants.{Good, Refused}
-use Rattle.sfc.specs.declared.written.Written.the-variants.{Bytes, Refused as Unwritten}
+use Rattle.sfc.specs.declared.format.header.Head.{Head}
+use Rattle.sfc.specs.declared.format.header.HeaderRead.{HeaderRead}
+use Rattle.sfc.specs.declared.answer.reason.Reason.{Reason}
+use Rattle.sfc.specs.declared.answer.reason.Reason.the-variants.{Lent, OutputShort}
+use Rattle.sfc.specs.declared.answer.reason.Checked.{Checked}
+use Rattle.sfc.specs.declared.answer.reason.Checked.the-variants.{Good, Refused}
+use Rattle.sfc.specs.declared.answer.written.Written.the-variants.{Bytes, Refused as Unwritten}
 use Rattle.sfc.proofs.CheckLaws.{passed, good-then, refused-then, good-all, tells}
 use Rattle.sfc.proofs.MarkLaws.{RightShape, right-shape}
 use Rattle.sfc.proofs.RightLaws.{accepted-shape}

@@ -7,19 +7,19 @@ use native.Mathlib.Omega.{arith}
 use lib.Dec.{ltb, eqb}
 use lib.ListN.{length, length-append, length-replicate}
 use Rattle.little.proofs.TestLaws.{or-false}
-use Rattle.sfc.specs.Bytes.{zeros}
-use Rattle.sfc.specs.Numbers.{Check, checked, verdict, reasonOf, numberOf}
-use Rattle.sfc.specs.Header.{regionOf, headOf, headerChecks}
-use Rattle.sfc.specs.Marks.{heldCount, marksWrong}
-use Rattle.sfc.specs.Session.{Session, lentWrong, sessionWrong}
-use Rattle.sfc.specs.Missing.{Range, missing, ranges}
-use Rattle.sfc.specs.HandOut.{contentChecks}
+use Rattle.little.specs.Runs.{zeros}
+use Rattle.sfc.specs.answer.Numbers.{Check, checked, verdict, reasonOf, numberOf}
+use Rattle.sfc.specs.format.Header.{regionOf, headOf, headerChecks}
+use Rattle.sfc.specs.session.Marks.{heldCount, marksWrong}
+use Rattle.sfc.specs.session.Session.{Session, lentWrong, sessionWrong}
+use Rattle.sfc.specs.note.Missing.{Range, missing, ranges}
+use Rattle.sfc.specs.give.HandOut.{contentChecks}
 use Rattle.sfc_listing.specs.Text.{text, digits, decimal, hex, line}
 use Rattle.sfc_listing.specs.Listing.{sessionOf, barredCount, missingLine, missingLines, lastWord, startText, sessionText, programChecks, refusedText, listingOf}
 use Rattle.sfc_listing.specs.Lines.{uuidLine, shapeLine, countsLine}
-use Rattle.sfc.specs.declared.header.Head.{Head}
-use Rattle.sfc.specs.declared.reason.Reason.{Reason}
-use Rattle.sfc.specs.declared.reason.Checked.the-variants.{Good}
+use Rattle.sfc.specs.declared.format.header.Head.{Head}
+use Rattle.sfc.specs.declared.answer.reason.Reason.{Reason}
+use Rattle.sfc.specs.declared.answer.reason.Checked.the-variants.{Good}
 use Rattle.sfc.proofs.GatherLaws.{length-cut}
 use Rattle.sfc.proofs.CheckLaws.{front-good, passed, all-passed}
 use Rattle.sfc.proofs.NoteExact.{note-theorems}

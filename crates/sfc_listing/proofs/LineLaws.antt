@@ -11,8 +11,8 @@ use lib.ListN.{length, getD, set, take, drop, length-append, length-set, drop-of
 use lib.Seq.{drop-cons, set-split, drop-drop, append-snoc, drop-length}
 use Rattle.little.specs.Parts.{part, put}
 use Rattle.little.proofs.PartLaws.{length-put, part-rest, put-none}
-use Rattle.sfc.specs.Missing.{Range}
-use Rattle.sfc.specs.Note.{bounds}
+use Rattle.sfc.specs.note.Missing.{Range}
+use Rattle.sfc.specs.note.Note.{bounds}
 use Rattle.sfc_listing.specs.Text.{text, digits, decimal, hexDigit, hex, line}
 use Rattle.sfc_listing.specs.Listing.{missingLine, missingLines, startText, refusedText}
 use Rattle.sfc_listing.specs.Lines.{uuidLine, shapeLine, countsLine, rangeLine, boundsLines, Appended}

@@ -13,26 +13,25 @@ use lib.ListN.{length, getD, drop, replicate, length-replicate, getD-replicate, 
 use lib.Seq.{take-at, drop-at, drop-drop, ext-getD}
 use Rattle.little.specs.Parts.{part}
 use Rattle.little.proofs.PartLaws.{length-part, part-part, block-inside}
-use Rattle.sfc.specs.Bytes.{any, zeros}
-use Rattle.sfc.specs.Numbers.{verdict, passes, numberOf}
-use Rattle.sfc.specs.Header.{lengthField, acceptedHeader}
-use Rattle.sfc.specs.Chunk.{chunkLength, lengthChecks, place}
-use Rattle.sfc.specs.Marks.{isHeld, heldCount}
-use Rattle.sfc.specs.Session.{Session, blank}
-use Rattle.sfc.specs.History.{afterAll}
-use Rattle.sfc.specs.Missing.{missing, ranges}
-use Rattle.sfc.specs.HandOut.{Lent, contentChecks, handOutChecks, handOut}
-use Rattle.sfc.specs.NoteTheorems.{among}
-use Rattle.sfc.specs.Writer.{Input, size, blocks, body, payload, chunk, fileOf, headFor}
-use Rattle.sfc.specs.Demand2.{AllBelow, different, received, Lawful, RoomFor}
+use Rattle.little.specs.Runs.{any, zeros, among}
+use Rattle.sfc.specs.answer.Numbers.{verdict, passes, numberOf}
+use Rattle.sfc.specs.format.Header.{lengthField, acceptedHeader}
+use Rattle.sfc.specs.format.Chunk.{chunkLength, lengthChecks, place}
+use Rattle.sfc.specs.session.Marks.{isHeld, heldCount}
+use Rattle.sfc.specs.session.Session.{Session, blank}
+use Rattle.sfc.specs.session.History.{afterAll}
+use Rattle.sfc.specs.note.Missing.{missing, ranges}
+use Rattle.sfc.specs.give.HandOut.{Lent, contentChecks, handOutChecks, handOut}
+use Rattle.sfc.specs.writing.Writer.{Input, size, blocks, body, payload, chunk, fileOf, headFor}
+use Rattle.sfc.specs.demand.Demand2.{AllBelow, different, received, Lawful, RoomFor}
 use Rattle.sfc_listing.specs.Text.{text, line}
 use Rattle.sfc_listing.specs.Listing.{between, chunksIn, sessionOf, barredCount, missingLines, lastWord, startText, sessionText, listingOf}
 use Rattle.sfc_listing.specs.Steps.{acceptedText}
 use Rattle.sfc_listing.specs.OwnFile.{OwnFile}
-use Rattle.sfc.specs.declared.header.Head.{Head}
-use Rattle.sfc.specs.declared.reason.Reason.{Reason}
-use Rattle.sfc.specs.declared.reason.Checked.the-variants.{Good}
-use Rattle.sfc.specs.declared.handout.HandedOut.the-variants.{Complete, Refused}
+use Rattle.sfc.specs.declared.format.header.Head.{Head}
+use Rattle.sfc.specs.declared.answer.reason.Reason.{Reason}
+use Rattle.sfc.specs.declared.answer.reason.Checked.the-variants.{Good}
+use Rattle.sfc.specs.declared.give.hand_out.HandedOut.the-variants.{Complete, Refused}
 use Rattle.sfc.proofs.CheckLaws.{passed, all-passed, good-all, tells, good-passes}
 use Rattle.sfc.proofs.SessionLaws.{right-lent}
 use Rattle.sfc.proofs.MarkLaws.{right-shape}

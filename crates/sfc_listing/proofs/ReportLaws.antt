@@ -13,29 +13,29 @@ use lib.Seq.{take-at}
 use Rattle.little.specs.Fields.{Bytes}
 use Rattle.little.specs.Parts.{put}
 use Rattle.little.proofs.TestLaws.{or-false}
-use Rattle.sfc.specs.Bytes.{zeros}
-use Rattle.sfc.specs.Numbers.{Answered, checked, verdict, numberOf}
-use Rattle.sfc.specs.Marks.{heldCount, marksWrong}
-use Rattle.sfc.specs.Chunk.{place}
-use Rattle.sfc.specs.Session.{Session, lentWrong}
-use Rattle.sfc.specs.Missing.{Range, missing, ranges}
-use Rattle.sfc.specs.Note.{noteOf, writeNote, bounds, readNote}
-use Rattle.sfc.specs.NoteTheorems.{Sayable}
-use Rattle.sfc.specs.HandOut.{Lent, Rebuilding, rebuildWrong, contentChecks, handOut}
+use Rattle.little.specs.Runs.{zeros}
+use Rattle.sfc.specs.answer.Numbers.{Answered, checked, verdict, numberOf}
+use Rattle.sfc.specs.session.Marks.{heldCount, marksWrong}
+use Rattle.sfc.specs.format.Chunk.{place}
+use Rattle.sfc.specs.session.Session.{Session, lentWrong}
+use Rattle.sfc.specs.note.Missing.{Range, missing, ranges}
+use Rattle.sfc.specs.note.Note.{noteOf, writeNote, bounds, readNote}
+use Rattle.sfc.specs.note.NoteTheorems.{Sayable}
+use Rattle.sfc.specs.give.HandOut.{Lent, Rebuilding, rebuildWrong, contentChecks, handOut}
 use Rattle.sfc_listing.specs.Text.{text, line}
 use Rattle.sfc_listing.specs.Listing.{Desk, barredCount, lastWord, startText, sessionText}
 use Rattle.sfc_listing.specs.Lines.{wordOf, boundsLines}
 use Rattle.sfc_listing.specs.Steps.{Printed, untold, walked, Ready}
-use Rattle.sfc.specs.declared.header.Head.{Head}
-use Rattle.sfc.specs.declared.places.BytePlace.{BytePlace}
-use Rattle.sfc.specs.declared.reason.Reason.{Reason}
-use Rattle.sfc.specs.declared.reason.Checked.{Checked}
-use Rattle.sfc.specs.declared.reason.Checked.the-variants.{Good, Refused}
-use Rattle.sfc.specs.declared.note.NoteRead.{NoteRead}
-use Rattle.sfc.specs.declared.written.Written.{Written}
-use Rattle.sfc.specs.declared.written.Written.the-variants.{Bytes as Filled, Refused as Unwritten}
-use Rattle.sfc.specs.declared.handout.HandedOut.{HandedOut}
-use Rattle.sfc.specs.declared.handout.HandedOut.the-variants.{Complete, Refused as NotHandedOut}
+use Rattle.sfc.specs.declared.format.header.Head.{Head}
+use Rattle.sfc.specs.declared.answer.places.BytePlace.{BytePlace}
+use Rattle.sfc.specs.declared.answer.reason.Reason.{Reason}
+use Rattle.sfc.specs.declared.answer.reason.Checked.{Checked}
+use Rattle.sfc.specs.declared.answer.reason.Checked.the-variants.{Good, Refused}
+use Rattle.sfc.specs.declared.note.resend.NoteRead.{NoteRead}
+use Rattle.sfc.specs.declared.answer.written.Written.{Written}
+use Rattle.sfc.specs.declared.answer.written.Written.the-variants.{Bytes as Filled, Refused as Unwritten}
+use Rattle.sfc.specs.declared.give.hand_out.HandedOut.{HandedOut}
+use Rattle.sfc.specs.declared.give.hand_out.HandedOut.the-variants.{Complete, Refused as NotHandedOut}
 use Rattle.sfc_listing.specs.declared.lines.LastWord.{LastWord}
 use Rattle.sfc_listing.specs.declared.lines.LastWord.the-variants.{Complete as Whole, HashDiffers, Incomplete}
 use Rattle.sfc.proofs.CheckLaws.{good-all, refused-all, tells}

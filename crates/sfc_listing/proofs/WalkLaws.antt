@@ -9,15 +9,15 @@ use borrow.Author.Tests.{eq-eqb, ne-eqb}
 use lib.ListN.{length, getD, take, drop, length-drop}
 use lib.Seq.{drop-length, drop-drop}
 use Rattle.little.proofs.PartLaws.{drop-down}
-use Rattle.sfc.specs.Chunk.{frontLength}
-use Rattle.sfc.specs.Tallies.{noTallies}
-use Rattle.sfc.specs.Session.{Session, sessionWrong, after, Offered, offered}
-use Rattle.sfc.specs.History.{afterAll}
+use Rattle.sfc.specs.format.Chunk.{frontLength}
+use Rattle.sfc.specs.session.Tallies.{noTallies}
+use Rattle.sfc.specs.session.Session.{Session, sessionWrong, after, Offered, offered}
+use Rattle.sfc.specs.session.History.{afterAll}
 use Rattle.sfc_listing.specs.Listing.{chunksIn, barredCount}
 use Rattle.sfc_listing.specs.Steps.{untold, walked}
-use Rattle.sfc.specs.declared.header.Head.{Head}
-use Rattle.sfc.specs.declared.tallies.Tallies.{Tallies}
-use Rattle.sfc.specs.declared.session.Verdict.{Verdict}
+use Rattle.sfc.specs.declared.format.header.Head.{Head}
+use Rattle.sfc.specs.declared.session.tallies.Tallies.{Tallies}
+use Rattle.sfc.specs.declared.session.offer.Verdict.{Verdict}
 use Rattle.sfc.proofs.ChunkLaws.{front-some, front-none}
 use Rattle.sfc.proofs.OfferLaws.{one-offer}
 use Rattle.sfc.proofs.SessionLaws.{offered-session}

@@ -6,20 +6,20 @@ use mathlib.Core.List.{List, [], _∷_, _++_}
 use lib.Dec.{ltb, eqb}
 use lib.ListN.{length, take, drop}
 use Rattle.little.specs.Parts.{part, put}
-use Rattle.sfc.specs.Bytes.{zeros}
-use Rattle.sfc.specs.Numbers.{Check, checked, passes, numberOf}
-use Rattle.sfc.specs.Header.{lengthField, regionOf, headOf, headerChecks}
-use Rattle.sfc.specs.Chunk.{chunkLength, lengthChecks}
-use Rattle.sfc.specs.Marks.{heldCount}
-use Rattle.sfc.specs.Session.{Session, blank}
-use Rattle.sfc.specs.History.{afterAll}
-use Rattle.sfc.specs.Missing.{Range, missing, ranges}
-use Rattle.sfc.specs.HandOut.{contentChecks}
+use Rattle.little.specs.Runs.{zeros}
+use Rattle.sfc.specs.answer.Numbers.{Check, checked, passes, numberOf}
+use Rattle.sfc.specs.format.Header.{lengthField, regionOf, headOf, headerChecks}
+use Rattle.sfc.specs.format.Chunk.{chunkLength, lengthChecks}
+use Rattle.sfc.specs.session.Marks.{heldCount}
+use Rattle.sfc.specs.session.Session.{Session, blank}
+use Rattle.sfc.specs.session.History.{afterAll}
+use Rattle.sfc.specs.note.Missing.{Range, missing, ranges}
+use Rattle.sfc.specs.give.HandOut.{contentChecks}
 use Rattle.sfc_listing.specs.Text.{text, decimal, hex, line}
-use Rattle.sfc.specs.declared.header.Head.{Head}
-use Rattle.sfc.specs.declared.reason.Reason.{Reason}
-use Rattle.sfc.specs.declared.written.Written.{Written}
-use Rattle.sfc.specs.declared.written.Written.the-variants.{Bytes, Refused}
+use Rattle.sfc.specs.declared.format.header.Head.{Head}
+use Rattle.sfc.specs.declared.answer.reason.Reason.{Reason}
+use Rattle.sfc.specs.declared.answer.written.Written.{Written}
+use Rattle.sfc.specs.declared.answer.written.Written.the-variants.{Bytes, Refused}
 
 -- ---- the program's session
 

@@ -1,21 +1,21 @@
 // The listing: what a file holds, as the lines of text that a program prints.
 use crate::lines::put_refused;
 use crate::session::list_session;
-use sfc::header::Head;
-use sfc::header::read_header;
-use sfc::reason::Checked;
-use sfc::reason::Reason;
-use sfc::reason::number_of;
+use sfc::Checked;
+use sfc::Head;
+use sfc::Reason;
+use sfc::Written;
+use sfc::number_of;
+use sfc::read_header;
 use sfc::runs::clear;
 use sfc::runs::clear_indices;
 use sfc::runs::clear_numbers;
-use sfc::written::Written;
 ghost use mathlib.Core.Path.{_≡_};
 ghost use mathlib.Core.Bool.{false, not, _||_};
 ghost use Prim.Native.Nat.{_≤_};
 ghost use lib.Dec.{eqb};
 ghost use lib.ListN.{length};
-ghost use Rattle.sfc.specs.Header.{acceptedHeader, readHeader};
+ghost use Rattle.sfc.specs.format.Header.{acceptedHeader, readHeader};
 ghost use Rattle.sfc_listing.specs.Listing.{Desk, Listed, deskWrong, cleared, listingOf, listed};
 ghost use Rattle.sfc_listing.specs.Steps.{Printed, acceptedText};
 

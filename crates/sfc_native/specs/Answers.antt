@@ -1,14 +1,14 @@
 -- The numbers under which the answers of a hand-out and of a writer go out. Assumes nothing: these are definitions.
 use Prim.Native.Nat.{ℕ}
 use mathlib.Core.List.{List}
-use Rattle.sfc.specs.Numbers.{numberOf, Answered}
-use Rattle.sfc.specs.Header.{readHeader}
-use Rattle.sfc.specs.HandOut.{Lent, Rebuilding, handOut}
-use Rattle.sfc.specs.declared.header.Head.{Head}
-use Rattle.sfc.specs.declared.reason.Checked.{Checked}
-use Rattle.sfc.specs.declared.reason.Checked.the-variants.{Good, Refused}
-use Rattle.sfc.specs.declared.handout.HandedOut.{HandedOut}
-use Rattle.sfc.specs.declared.written.Written.{Written}
+use Rattle.sfc.specs.answer.Numbers.{numberOf, Answered}
+use Rattle.sfc.specs.format.Header.{readHeader}
+use Rattle.sfc.specs.give.HandOut.{Lent, Rebuilding, handOut}
+use Rattle.sfc.specs.declared.format.header.Head.{Head}
+use Rattle.sfc.specs.declared.answer.reason.Checked.{Checked}
+use Rattle.sfc.specs.declared.answer.reason.Checked.the-variants.{Good, Refused}
+use Rattle.sfc.specs.declared.give.hand_out.HandedOut.{HandedOut}
+use Rattle.sfc.specs.declared.answer.written.Written.{Written}
 
 -- 0 for complete, and document 01's number for a refusal
 unfoldable pub numberFor : HandedOut → ℕ

@@ -1,17 +1,17 @@
 // The hand-out and the writer under C names, for programs in other languages and for measuring: an answer goes out as a number.
-use sfc::handout::HandedOut;
-use sfc::handout::hand_out;
-use sfc::header::read_header;
-use sfc::reason::Checked;
-use sfc::reason::number_of;
-use sfc::writer::FileFacts;
-use sfc::writer::write;
-use sfc::written::Written;
+use sfc::Checked;
+use sfc::FileFacts;
+use sfc::HandedOut;
+use sfc::Written;
+use sfc::hand_out;
+use sfc::number_of;
+use sfc::read_header;
+use sfc::write;
 ghost use Prim.Native.Nat.{ℕ};
 ghost use mathlib.Core.Path.{_≡_};
-ghost use Rattle.sfc.specs.HandOut.{Rebuilding};
-ghost use Rattle.sfc.specs.Numbers.{Answered};
-ghost use Rattle.sfc.specs.Writer.{inputOf, writeFile};
+ghost use Rattle.sfc.specs.give.HandOut.{Rebuilding};
+ghost use Rattle.sfc.specs.answer.Numbers.{Answered};
+ghost use Rattle.sfc.specs.writing.Writer.{inputOf, writeFile};
 ghost use Rattle.sfc_native.specs.Answers.{numberFor, handOutOf, lengthFor, measured};
 
 fn number(handed: HandedOut) -> u8

@@ -4,10 +4,10 @@ use crate::frame;
 use crate::frame::Frame;
 use crate::print;
 use crate::run::Run;
-use sfc::chunk::ChunkChecked;
-use sfc::chunk::check_chunk;
-use sfc::header::Head;
-use sfc::reason::number_of;
+use sfc::ChunkChecked;
+use sfc::Head;
+use sfc::check_chunk;
+use sfc::number_of;
 
 // The number of the refusal, and 0 for a whole chunk.
 fn answer(head: Head, chunk: &[u8]) -> u8 {

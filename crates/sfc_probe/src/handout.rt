@@ -4,13 +4,13 @@ use crate::frame;
 use crate::frame::Frame;
 use crate::print;
 use crate::sets;
-use sfc::block::block;
-use sfc::handout::HandedOut;
-use sfc::handout::hand_out;
-use sfc::header::Head;
-use sfc::places::BlockNumber;
-use sfc::prefix::Given;
-use sfc::reason::number_of;
+use sfc::BlockNumber;
+use sfc::Given;
+use sfc::HandedOut;
+use sfc::Head;
+use sfc::block;
+use sfc::hand_out;
+use sfc::number_of;
 ghost use Rattle.io.specs.Counts.{Counts};
 
 // How many bytes and numbers are lent as scratch.

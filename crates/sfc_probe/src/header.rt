@@ -4,12 +4,12 @@ use crate::frame;
 use crate::frame::Frame;
 use crate::print;
 use crate::run::Run;
-use sfc::header::Head;
-use sfc::header::read_header;
-use sfc::lookup::FieldFound;
-use sfc::lookup::find_field;
-use sfc::reason::Checked;
-use sfc::reason::number_of;
+use sfc::Checked;
+use sfc::FieldFound;
+use sfc::Head;
+use sfc::find_field;
+use sfc::number_of;
+use sfc::read_header;
 
 // The head of no file.
 pub(crate) fn none() -> Head {

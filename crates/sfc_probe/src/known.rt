@@ -4,13 +4,13 @@ use crate::frame;
 use crate::frame::Frame;
 use crate::note;
 use crate::print;
-use sfc::header::Head;
-use sfc::missing::Listed;
-use sfc::missing::list_missing;
-use sfc::note::write_note;
-use sfc::prefix::Given;
-use sfc::prefix::prefix;
-use sfc::reason::number_of;
+use sfc::Given;
+use sfc::Head;
+use sfc::Listed;
+use sfc::list_missing;
+use sfc::number_of;
+use sfc::prefix;
+use sfc::write_note;
 
 fn print_given(given: Given) {
     match given {

@@ -4,7 +4,7 @@ use crate::frame::Frame;
 use crate::handout;
 use crate::note;
 use crate::print;
-use sfc::written::Written;
+use sfc::Written;
 use sfc_listing::listing::listing;
 
 // The pieces of lent memory, by the small number of a frame that gives one of them another length; then the file.

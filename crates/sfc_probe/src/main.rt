@@ -12,12 +12,12 @@ mod print;
 mod run;
 mod session;
 mod sets;
-mod write;
+mod writing;
 
 use edit::Sizes;
 use frame::Frame;
 use session::Session;
-use sfc::header::Head;
+use sfc::Head;
 
 // Frames that take the file, or a part of it, as a chunk or a note.
 fn ask_part(frame: Frame, head: Head, file: &mut [u8]) {

@@ -4,10 +4,10 @@ use crate::frame;
 use crate::frame::Frame;
 use crate::print;
 use crate::run::Run;
-use sfc::note::NoteRead;
-use sfc::note::read_note;
-use sfc::reason::Checked;
-use sfc::reason::number_of;
+use sfc::Checked;
+use sfc::NoteRead;
+use sfc::number_of;
+use sfc::read_note;
 ghost use Rattle.io.specs.Counts.{Counts};
 
 // As many numbers as the longest missing list has, with a pattern.

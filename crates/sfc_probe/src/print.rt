@@ -1,7 +1,7 @@
 // What the answers are printed with.
 use libc::STDOUT_FILENO;
-use sfc::reason::number_of;
-use sfc::written::Written;
+use sfc::Written;
+use sfc::number_of;
 
 pub(crate) fn text(t: &[u8]) {
     io::write_all(STDOUT_FILENO, t);

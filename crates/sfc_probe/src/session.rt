@@ -6,11 +6,11 @@ use crate::handout;
 use crate::handout::Scratch;
 use crate::known;
 use crate::print;
-use sfc::header::Head;
-use sfc::reason::number_of;
-use sfc::session::Verdict;
-use sfc::session::offer;
-use sfc::tallies::Tallies;
+use sfc::Head;
+use sfc::Tallies;
+use sfc::Verdict;
+use sfc::number_of;
+use sfc::offer;
 
 // How many bytes of the two buffers are store and marks, how much scratch is lent, and the tallies.
 pub(crate) struct Session {

@@ -4,7 +4,7 @@ use crate::frame::Frame;
 use crate::handout;
 use crate::handout::Told;
 use crate::print;
-use sfc::header::Head;
+use sfc::Head;
 
 // The most sets of one frame.
 const MOST: usize = 256;

@@ -3,8 +3,8 @@ use crate::edit;
 use crate::edit::Sizes;
 use crate::frame::Frame;
 use crate::print;
-use sfc::writer::FileFacts;
-use sfc::writer::write;
+use sfc::FileFacts;
+use sfc::write;
 
 // The 16 bytes at 8.
 fn uuid_of(inputs: &[u8]) -> [u8; 16] {

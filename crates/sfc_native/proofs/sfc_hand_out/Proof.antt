@@ -3,14 +3,14 @@ use Prim.Native.Nat.{ℕ}
 use mathlib.Core.Path.{_≡_, sym, ap, _∙_}
 use mathlib.Core.List.{List}
 use borrow.Author.Needs.{needs}
-use Rattle.sfc.specs.Numbers.{numberOf}
-use Rattle.sfc.specs.HandOut.{Lent, Rebuilding, handOut}
-use Rattle.sfc.specs.Header.{readHeader}
-use Rattle.sfc.specs.declared.handout.HandedOut.{HandedOut}
-use Rattle.sfc.specs.declared.header.HeaderRead.{HeaderRead}
-use Rattle.sfc.specs.declared.reason.Reason.{Reason}
-use Rattle.sfc.specs.declared.reason.Checked.{Checked}
-use Rattle.sfc.specs.declared.reason.Checked.the-variants.{Good, Refused}
+use Rattle.sfc.specs.answer.Numbers.{numberOf}
+use Rattle.sfc.specs.give.HandOut.{Lent, Rebuilding, handOut}
+use Rattle.sfc.specs.format.Header.{readHeader}
+use Rattle.sfc.specs.declared.give.hand_out.HandedOut.{HandedOut}
+use Rattle.sfc.specs.declared.format.header.HeaderRead.{HeaderRead}
+use Rattle.sfc.specs.declared.answer.reason.Reason.{Reason}
+use Rattle.sfc.specs.declared.answer.reason.Checked.{Checked}
+use Rattle.sfc.specs.declared.answer.reason.Checked.the-variants.{Good, Refused}
 use Rattle.sfc_native.specs.Answers.{numberFor, numbered, handOutBy, handOutOf}
 use Rattle.sfc_native.proofs.sfc_hand_out.Statement.{statement}
 use Rattle.sfc_native.proofs.sfc_hand_out.Tie as tie

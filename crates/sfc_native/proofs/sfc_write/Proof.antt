@@ -3,8 +3,8 @@ use Prim.Native.Nat.{ℕ}
 use mathlib.Core.Path.{_≡_, ap, _∙_}
 use mathlib.Core.List.{List}
 use borrow.Author.Needs.{needs}
-use Rattle.sfc.specs.Numbers.{Answered}
-use Rattle.sfc.specs.declared.written.Written.{Written}
+use Rattle.sfc.specs.answer.Numbers.{Answered}
+use Rattle.sfc.specs.declared.answer.written.Written.{Written}
 use Rattle.sfc_native.specs.Answers.{lengthFor, measured}
 use Rattle.sfc_native.proofs.sfc_write.Statement.{statement}
 use Rattle.sfc_native.proofs.sfc_write.Tie as tie

@@ -2,7 +2,7 @@
 use mathlib.Core.Path.{refl, sym}
 use native.Mathlib.Omega.{arith}
 use lib.Seq.{length-take-le}
-use Rattle.sfc.specs.Bytes.{zeros}
+use Rattle.little.specs.Runs.{zeros}
 use Rattle.sfc.proofs.RightLaws.{bytes-zeros}
 use Rattle.sfc_listing.proofs.ReportLaws.{note-refused, note-inside, ranges-read}
 use borrow.Author.Needs.{needs}

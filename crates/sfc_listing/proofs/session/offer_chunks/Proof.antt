@@ -5,7 +5,7 @@ use native.Mathlib.Omega.{arith}
 use lib.ListN.{length}
 use lib.Seq.{length-take-le}
 use Rattle.little.proofs.PartLaws.{part-rest}
-use Rattle.sfc.specs.Session.{Session}
+use Rattle.sfc.specs.session.Session.{Session}
 use Rattle.sfc_listing.proofs.WalkLaws.{Walking, walking-start, walking-inside, walking-end, walking-stop, front-inside, walking-on}
 use borrow.Author.Needs.{needs}
 use Rattle.sfc_listing.proofs.session.offer_chunks.Statement.{statement}

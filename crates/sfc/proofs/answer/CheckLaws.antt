@@ -1,0 +1,106 @@
+-- Lists of checks, one behind the other: what a refusal and a good verdict of the first part say of the whole, and what an
+-- answer tells of them. Assumes nothing.
+use Prim.Native.Nat.{ℕ}
+use mathlib.Core.Path.{_≡_, refl, sym, ap, _∙_}
+use mathlib.Core.Bool.{true, false, true≢false, false≢true}
+use mathlib.Core.List.{List, [], _∷_, _++_}
+use native.Mathlib.Omega.{arith}
+use Rattle.sfc.specs.answer.Numbers.{Check, checked, verdict, passes, reasonOf}
+use Rattle.sfc.specs.declared.answer.reason.Reason.{Reason}
+use Rattle.sfc.specs.declared.answer.reason.Checked.{Checked}
+use Rattle.sfc.specs.declared.answer.reason.Checked.the-variants.{Good, Refused}
+
+refused-not-good : {A : Type 0} (r : Reason) → _≡_ {A = Checked} (Refused r) Good → A
+refused-not-good r e = absurd (let z : _≡_ {A = ℕ} 0 1 = cc in omega arith)
+
+refused-one : (r s : Reason) → _≡_ {A = Checked} (Refused r) (Refused s) → r ≡ s
+refused-one r s e = cc
+
+module _ {A : Type 0} (refuse : Reason → A) where
+  -- a good part is passed over
+  pub good-then : (cs ds : List Check) (good : A) → verdict cs ≡ Good → checked (cs ++ ds) refuse good ≡ checked ds refuse good
+  good-then [] ds good e = refl
+  good-then ((true, k) ∷ cs) ds good e = refused-not-good (reasonOf k) e
+  good-then ((false, k) ∷ cs) ds good e = good-then cs ds good e
+
+  -- a part that refuses decides
+  pub refused-then : (cs ds : List Check) (good : A) (r : Reason) → verdict cs ≡ Refused r → checked (cs ++ ds) refuse good ≡ refuse r
+  refused-then [] ds good r e = refused-not-good r (sym e)
+  refused-then ((true, k) ∷ cs) ds good r e = ap refuse (refused-one (reasonOf k) r e)
+  refused-then ((false, k) ∷ cs) ds good r e = refused-then cs ds good r e
+
+  -- the same of a whole list
+  pub good-all : (cs : List Check) (good : A) → verdict cs ≡ Good → checked cs refuse good ≡ good
+  good-all [] good e = refl
+  good-all ((true, k) ∷ cs) good e = refused-not-good (reasonOf k) e
+  good-all ((false, k) ∷ cs) good e = good-all cs good e
+
+  pub refused-all : (cs : List Check) (good : A) (r : Reason) → verdict cs ≡ Refused r → checked cs refuse good ≡ refuse r
+  refused-all [] good r e = refused-not-good r (sym e)
+  refused-all ((true, k) ∷ cs) good r e = ap refuse (refused-one (reasonOf k) r e)
+  refused-all ((false, k) ∷ cs) good r e = refused-all cs good r e
+
+-- ---- the same for a function that goes on only where the part before was good
+
+pub stop : (cs ds : List Check) (v : Checked) (r : Reason) → v ≡ verdict cs → v ≡ Refused r → v ≡ verdict (cs ++ ds)
+stop cs ds v r e f = f ∙ sym (refused-then Refused cs ds Good r (sym e ∙ f))
+
+pub go-on : (cs ds : List Check) (v w : Checked) → v ≡ verdict cs → v ≡ Good → w ≡ verdict ds → w ≡ verdict (cs ++ ds)
+go-on cs ds v w e f g = g ∙ sym (good-then Refused cs ds Good (sym e ∙ f))
+
+-- each test of a good list is false
+abbrev pub Passed : List Check → Type 0
+Passed [] = Unit {0}
+Passed (c ∷ cs) = (c .0 ≡ false) × Passed cs
+
+pub passed : (cs : List Check) → verdict cs ≡ Good → Passed cs
+passed [] e = tt
+passed ((true, k) ∷ cs) e = refused-not-good (reasonOf k) e
+passed ((false, k) ∷ cs) e = (refl, passed cs e)
+
+-- the front of a good list is good
+pub front-good : (cs ds : List Check) → verdict (cs ++ ds) ≡ Good → verdict cs ≡ Good
+front-good [] ds e = refl
+front-good ((true, k) ∷ cs) ds e = refused-not-good (reasonOf k) e
+front-good ((false, k) ∷ cs) ds e = front-good cs ds e
+
+pub all-passed : (cs : List Check) → Passed cs → verdict cs ≡ Good
+all-passed [] p = refl
+all-passed ((true, k) ∷ cs) p = absurd (true≢false (p .0))
+all-passed ((false, k) ∷ cs) p = all-passed cs (p .1)
+
+-- ---- a list of checks passes exactly if its verdict is good
+
+pub passes-good : (cs : List Check) → passes cs ≡ true → verdict cs ≡ Good
+passes-good [] e = refl
+passes-good ((true, k) ∷ cs) e = absurd (false≢true e)
+passes-good ((false, k) ∷ cs) e = passes-good cs e
+
+pub good-passes : (cs : List Check) → verdict cs ≡ Good → passes cs ≡ true
+good-passes [] e = refl
+good-passes ((true, k) ∷ cs) e = refused-not-good (reasonOf k) e
+good-passes ((false, k) ∷ cs) e = good-passes cs e
+
+pub wrong-fails : (cs : List Check) (r : Reason) → verdict cs ≡ Refused r → passes cs ≡ false
+wrong-fails [] r e = refused-not-good r (sym e)
+wrong-fails ((true, k) ∷ cs) r e = refl
+wrong-fails ((false, k) ∷ cs) r e = wrong-fails cs r e
+
+-- ---- what an answer tells of the checks behind it, whatever form it has
+
+-- an answer that is no refusal was let through by every check
+pub let-through : {A : Type 0} (refuse : Reason → A) (cs : List Check) (good v : A) → ((r : Reason) → refuse r ≡ v → ⊥) → checked cs refuse good ≡ v
+    → Passed cs × (good ≡ v)
+let-through refuse [] good v n e = (tt, e)
+let-through refuse ((true, k) ∷ cs) good v n e = absurd (n (reasonOf k) e)
+let-through refuse ((false, k) ∷ cs) good v n e = let p = let-through refuse cs good v n e in ((refl, p .0), p .1)
+
+-- `seen` reads the verdict out of an answer
+module _ {A : Type 0} (seen : A → Checked) (refuse : Reason → A) (good : A) (f : (r : Reason) → seen (refuse r) ≡ Refused r) (g : seen good ≡ Good) where
+  seen-of : (cs : List Check) → seen (checked cs refuse good) ≡ verdict cs
+  seen-of [] = g
+  seen-of ((true, k) ∷ cs) = f (reasonOf k)
+  seen-of ((false, k) ∷ cs) = seen-of cs
+
+  pub tells : (cs : List Check) (v : Checked) → seen (checked cs refuse good) ≡ v → verdict cs ≡ v
+  tells cs v e = sym (seen-of cs) ∙ e

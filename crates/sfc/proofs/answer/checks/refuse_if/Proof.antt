@@ -1,0 +1,12 @@
+-- `sfc::answer::checks::refuse_if` meets its contract, by the test. Assumes nothing.
+use Rattle.sfc.proofs.answer.checks.refuse_if.Statement.{statement}
+use Rattle.sfc.proofs.answer.checks.refuse_if.Tie as tie
+
+returns : tie.Need-returns
+returns c = simp (c .if1 .taken)
+
+returns-2 : tie.Need-returns-2
+returns-2 c = simp (c .if1 .left)
+
+pub refuse-if-spec : {M : Type 1} → statement M
+refuse-if-spec = tie.close (tie.spec returns returns-2)

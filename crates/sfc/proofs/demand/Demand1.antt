@@ -1,0 +1,347 @@
+-- Demand 1 (specs/demand/Demand1.antt), call by call. Assumes nothing.
+use Prim.Native.Nat.{ℕ, _*_, _≤_, _<_}
+use mathlib.Core.Path.{_≡_, refl, sym, ap, ap₂, _∙_}
+use mathlib.Core.Bool.{Bool, true, false, cond, not, _&&_, _||_, false≢true}
+use mathlib.Core.List.{List, [], _∷_}
+use native.Mathlib.Omega.{arith}
+use borrow.Author.Tests.{eqb-true, ltb-false, leb-false, le-ltb, lt-leb, not-false}
+use lib.Dec.{eqb, ltb, lit≤}
+use lib.ListN.{length, getD}
+use Rattle.little.specs.Parts.{put}
+use Rattle.little.proofs.TestLaws.{or-false}
+use Rattle.little.specs.Runs.{any, zeros, among}
+use Rattle.sfc.specs.answer.Numbers.{Check, checked, verdict, passes, numberOf}
+use Rattle.sfc.specs.format.Header.{headerChecks, regionOf, headOf, refusedHeader, acceptedHeader, readHeader}
+use Rattle.sfc.specs.format.Chunk.{indexOf, number, place, aloneChecks, checkChunk}
+use Rattle.sfc.specs.session.Marks.{isHeld, heldCount}
+use Rattle.sfc.specs.session.Tallies.{counted, countedRefusal}
+use Rattle.sfc.specs.session.Session.{Session, mark, lentWrong, offerChecks, welcomed, verdictOf, withBlock, settled, after}
+use Rattle.sfc.specs.give.HandOut.{Lent, rebuildWrong, lentAfter, contentOf, handOutLent, contentChecks, handOutChecks, handOut}
+use Rattle.sfc.specs.give.Block.{blockGiven, blockLent, blockChecks, blockRequest}
+use Rattle.sfc.specs.give.Prefix.{prefixBlocks, prefixOf, prefixChecks, prefixGiven}
+use Rattle.sfc.specs.note.Missing.{missing, missingChecks, listMissing}
+use Rattle.sfc.specs.note.Note.{noteFor, noteChecks, writeNote, countIn, rangesIn, bounds, readChecks, refusedNote, goodNote, readNote}
+use Rattle.sfc.specs.writing.Writer.{Input, fileOf, writerChecks, writeFile}
+use Rattle.sfc.specs.demand.Demand1.{OneOf, Leaves, Ends, lentLeft, Demand1}
+use Rattle.sfc.specs.declared.format.header.Head.{Head}
+use Rattle.sfc.specs.declared.format.header.HeaderRead.{HeaderRead}
+use Rattle.sfc.specs.declared.answer.places.BlockNumber.{BlockNumber}
+use Rattle.sfc.specs.declared.answer.places.BytePlace.{BytePlace}
+use Rattle.sfc.specs.declared.answer.reason.Reason.{Reason}
+use Rattle.sfc.specs.declared.answer.reason.Checked.{Checked}
+use Rattle.sfc.specs.declared.answer.reason.Checked.the-variants.{Good, Refused}
+use Rattle.sfc.specs.declared.format.chunk.ChunkChecked.{ChunkChecked}
+use Rattle.sfc.specs.declared.format.chunk.ChunkChecked.the-variants.{Whole, Refused as NoChunk}
+use Rattle.sfc.specs.declared.session.offer.Verdict.{Verdict}
+use Rattle.sfc.specs.declared.session.offer.Verdict.the-variants.{Fresh, Repeat, Refused as NotTaken}
+use Rattle.sfc.specs.declared.give.hand_out.HandedOut.{HandedOut}
+use Rattle.sfc.specs.declared.give.hand_out.HandedOut.the-variants.{Complete, Refused as NotHandedOut}
+use Rattle.sfc.specs.declared.give.prefix.Given.{Given}
+use Rattle.sfc.specs.declared.give.prefix.Given.the-variants.{Unverified, Refused as NotGiven}
+use Rattle.sfc.specs.declared.note.missing.Listed.{Listed}
+use Rattle.sfc.specs.declared.note.missing.Listed.the-variants.{Count, Refused as NotListed}
+use Rattle.sfc.specs.declared.note.resend.NoteRead.{NoteRead}
+use Rattle.sfc.specs.declared.answer.written.Written.{Written}
+use Rattle.sfc.specs.declared.answer.written.Written.the-variants.{Bytes as Took, Refused as NotWritten}
+use Rattle.sfc.proofs.answer.CheckLaws.{passed, good-all, refused-all, tells}
+use Rattle.sfc.proofs.session.SessionLaws.{right-lent, after-by, number-in}
+use Rattle.sfc.proofs.session.HistoryLaws.{after-tallies}
+use Rattle.sfc.proofs.session.OfferLaws.{one-offer}
+use Rattle.sfc.proofs.note.NoteLaws.{length-bounds}
+use Rattle.sfc.proofs.session.HeldLaws.{length-decode, length-content}
+use Rattle.sfc.proofs.give.GivenLaws.{lent-right, lent-output, complete-has-hash}
+use Rattle.sfc.proofs.format.FieldInside.{field-inside}
+use Rattle.sfc.proofs.answer.RefusalLaws.{leaves, ends, early-told}
+
+-- ---- the verdict in each kind of answer
+
+abbrev chunkSeen : ChunkChecked → Checked
+chunkSeen (Whole i p) = Good
+chunkSeen (NoChunk r) = Refused r
+
+abbrev offerSeen : Verdict → Checked
+offerSeen (Fresh i p) = Good
+offerSeen (Repeat i p) = Good
+offerSeen (NotTaken r) = Refused r
+
+abbrev pub handOutSeen : HandedOut → Checked
+handOutSeen (Complete p) = Good
+handOutSeen (NotHandedOut r) = Refused r
+
+abbrev givenSeen : Given → Checked
+givenSeen (Unverified i p) = Good
+givenSeen (NotGiven r) = Refused r
+
+abbrev listedSeen : Listed → Checked
+listedSeen (Count k) = Good
+listedSeen (NotListed r) = Refused r
+
+abbrev pub writtenSeen : Written → Checked
+writtenSeen (Took k) = Good
+writtenSeen (NotWritten r) = Refused r
+
+-- ---- header and chunk
+
+header-refused : (b : List ℕ) (r : Reason) → readHeader b .verdict ≡ Refused r → (10 ≤ numberOf r) × (numberOf r ≤ 23) × (readHeader b ≡ refusedHeader r)
+unfolding readHeader
+header-refused b r e =
+    let t = tells (λ (x : HeaderRead). x .verdict) refusedHeader (acceptedHeader (headOf (regionOf b))) (λ q. refl) refl (headerChecks b) (Refused r) e in
+    let n = number-in (λ (k : ℕ). (10 ≤ k) × (k ≤ 23)) (headerChecks b) r
+    ((lit≤ tt, lit≤ tt), ((lit≤ tt, lit≤ tt), ((lit≤ tt, lit≤ tt), ((lit≤ tt, lit≤ tt), ((lit≤ tt, lit≤ tt), ((lit≤ tt, lit≤ tt), ((lit≤ tt, lit≤ tt), ((lit≤ tt, lit≤ tt), ((lit≤ tt, lit≤ tt), ((lit≤ tt, lit≤ tt), ((lit≤ tt, lit≤ tt), ((lit≤ tt, lit≤ tt), ((lit≤ tt, lit≤ tt), ((lit≤ tt, lit≤ tt), ((lit≤ tt, lit≤ tt), tt))))))))))))))) t in
+    (n .0, n .1, refused-all refusedHeader (headerChecks b) (acceptedHeader (headOf (regionOf b))) r t)
+
+chunk-refused : (h : Head) (c : List ℕ) (r : Reason) → checkChunk h c ≡ NoChunk r → OneOf r (71 ∷ 30 ∷ 31 ∷ 32 ∷ 33 ∷ 34 ∷ 35 ∷ 36 ∷ 37 ∷ 38 ∷ 39 ∷ 40 ∷ [])
+unfolding checkChunk any
+chunk-refused h c r e =
+    number-in (λ (k : ℕ). among k (71 ∷ 30 ∷ 31 ∷ 32 ∷ 33 ∷ 34 ∷ 35 ∷ 36 ∷ 37 ∷ 38 ∷ 39 ∷ 40 ∷ []) ≡ true) (aloneChecks h c) r
+    (refl, (refl, (refl, (refl, (refl, (refl, (refl, (refl, (refl, (refl, (refl, (refl, (refl, tt)))))))))))))
+    (tells chunkSeen NoChunk (Whole (number (indexOf c)) (place 48)) (λ q. refl) refl (aloneChecks h c) (Refused r) (ap chunkSeen e))
+
+-- ---- an offer
+
+module _ (h : Head) (x : Session) (c : List ℕ) (r : Reason) (e : verdictOf h x c ≡ NotTaken r) where
+  offer-numbers : OneOf r (71 ∷ 43 ∷ 30 ∷ 31 ∷ 32 ∷ 33 ∷ 34 ∷ 35 ∷ 36 ∷ 37 ∷ 38 ∷ 39 ∷ 40 ∷ 41 ∷ 42 ∷ [])
+  unfolding verdictOf any
+  offer-numbers =
+      number-in (λ (k : ℕ). among k (71 ∷ 43 ∷ 30 ∷ 31 ∷ 32 ∷ 33 ∷ 34 ∷ 35 ∷ 36 ∷ 37 ∷ 38 ∷ 39 ∷ 40 ∷ 41 ∷ 42 ∷ []) ≡ true) (offerChecks h x c) r
+      (refl, (refl, (refl, (refl, (refl, (refl, (refl, (refl, (refl, (refl, (refl, (refl, (refl, (refl, (refl, (refl, tt))))))))))))))))
+      (tells offerSeen NotTaken (welcomed h x c) (λ q. refl) (welcome (eqb (mark x (indexOf c)) 0)) (offerChecks h x c) (Refused r) (ap offerSeen e))
+    where
+      welcome : (b : Bool) → offerSeen (cond b (Fresh (number (indexOf c)) (place (indexOf c * h .s))) (Repeat (number (indexOf c)) (place (indexOf c * h .s)))) ≡ Good
+      welcome true = refl
+      welcome false = refl
+
+  -- the session after a refusal by a number
+  refusedBy : ℕ → Session
+  refusedBy k =
+      let y : Session = cond (eqb k 41) (withBlock h x (indexOf c) (zeros (h .s)) 2) x in
+      record { store = y .store; marks = y .marks; tallies = countedRefusal (y .tallies) k }
+
+  offer-uncounted : OneOf r (71 ∷ 43 ∷ []) → after h x c ≡ x
+  unfolding any settled counted countedRefusal refusedBy
+  offer-uncounted o = after-by h x c (NotTaken r) e ∙ go (eqb (numberOf r) 71) (eqb (numberOf r) 43) refl refl o
+    where
+      go : (a b : Bool) → eqb (numberOf r) 71 ≡ a → eqb (numberOf r) 43 ≡ b → (a || (b || false)) ≡ true → refusedBy (numberOf r) ≡ x
+      go true b f g q = ap refusedBy (eqb-true (numberOf r) 71 f)
+      go false true f g q = ap refusedBy (eqb-true (numberOf r) 43 g)
+      go false false f g q = absurd (false≢true q)
+
+  offer-counted : after h x c .tallies ≡ countedRefusal (x .tallies) (numberOf r)
+  unfolding counted
+  offer-counted = after-tallies h x c ∙ ap (counted (x .tallies)) e
+
+-- ---- the calls that rebuild
+
+-- the lengths that 71 lets through
+lengths : (h : Head) (store marks : List ℕ) (l : Lent) → rebuildWrong h store marks l ≡ false → (length (l .scratch) ≡ h .m * h .s) × (length (l .numbers) ≡ 1024)
+unfolding rebuildWrong
+lengths h store marks l e =
+    let w : Bool = lentWrong (h .size) (h .n) (h .m) (h .s) store marks in
+    let s : Bool = not (eqb (length (l .scratch)) (h .m * h .s)) in
+    let a = or-false (w || s) (not (eqb (length (l .numbers)) 1024)) e in
+    let b = or-false w s (a .0) in (
+      eqb-true (length (l .scratch)) (h .m * h .s) (not-false (eqb (length (l .scratch)) (h .m * h .s)) (b .1)),
+      eqb-true (length (l .numbers)) 1024 (not-false (eqb (length (l .numbers)) 1024) (a .1)),
+    )
+
+wiped : (past : Bool) (l : Lent) (out : List ℕ) (a b : ℕ) → past ≡ true → (length (l .scratch) ≡ a) × (length (l .numbers) ≡ b)
+    → (lentAfter past l out .scratch ≡ zeros a) × (lentAfter past l out .numbers ≡ zeros b)
+unfolding lentAfter
+wiped past l out a b e n = rw e (ap (λ (k : ℕ). zeros k) (n .0), ap (λ (k : ℕ). zeros k) (n .1))
+
+module _ (h : Head) (store marks : List ℕ) (l : Lent) where
+  hand-out-told : (v : Checked) → handOutSeen (handOut h store marks l .answer) ≡ v → verdict (handOutChecks h store marks l) ≡ v
+  unfolding handOut
+  hand-out-told v e = tells handOutSeen NotHandedOut (Complete (place (h .size))) (λ q. refl) refl (handOutChecks h store marks l) v e
+
+  hand-out-refused : (r : Reason) → handOut h store marks l .answer ≡ NotHandedOut r
+      → OneOf r (71 ∷ 52 ∷ 50 ∷ 51 ∷ []) × (handOut h store marks l .lent ≡ lentLeft r (71 ∷ 52 ∷ []) l)
+  unfolding handOut any
+  hand-out-refused r e =
+      let t = hand-out-told (Refused r) (ap handOutSeen e) in
+      let g = leaves (handOutChecks h store marks l) r (71 ∷ 52 ∷ 50 ∷ 51 ∷ []) (l .output) (put (l .output) 0 (contentOf h store marks)) (refl, (refl, (refl, (refl, tt)))) t in (
+        g .number,
+        ap₂ (λ (b : Bool) (out : List ℕ). lentAfter b l out)
+            (early-told (handOutLent h store marks l) (contentChecks h store marks) r (71 ∷ 52 ∷ []) (refl, (refl, tt)) (refl, (refl, tt)) t)
+            (g .output),
+      )
+
+  hand-out-ends : (p : ℕ) → handOut h store marks l .answer ≡ Complete (place p) → Ends p (l .output) (handOut h store marks l .lent .output)
+  unfolding handOut
+  hand-out-ends p e =
+      let cs : List Check = handOutChecks h store marks l in
+      let t = hand-out-told Good (ap handOutSeen e) in
+      let c = complete-has-hash h store marks l (place p) e in
+      let k : p ≡ h .size = ap (λ (q : BytePlace). q .0) (c .0) in
+      let n : length (contentOf h store marks) ≡ p = length-content h store marks (lent-right h store marks l (passed cs t .0)) ∙ sym k in
+      rw (lent-output (passes (handOutLent h store marks l)) l (checked cs (λ (r : Reason). l .output) (put (l .output) 0 (contentOf h store marks))))
+      (ends cs (l .output) (contentOf h store marks) p t n (omega (arith, c .1)))
+
+  hand-out-scratch : rebuildWrong h store marks l ≡ false → h .size ≤ length (l .output)
+      → (handOut h store marks l .lent .scratch ≡ zeros (h .m * h .s)) × (handOut h store marks l .lent .numbers ≡ zeros 1024)
+  unfolding handOut
+  hand-out-scratch e o = wiped (passes (handOutLent h store marks l)) l _ (h .m * h .s) 1024 (rw (e, le-ltb (length (l .output)) (h .size) o)) (lengths h store marks l e)
+
+module _ (h : Head) (store marks : List ℕ) (j : ℕ) (l : Lent) where
+  block-told : (v : Checked) → givenSeen (blockRequest h store marks j l .answer) ≡ v → verdict (blockChecks h store marks j l) ≡ v
+  unfolding blockRequest
+  block-told v e = tells givenSeen NotGiven (Unverified (number j) (place (j * h .s))) (λ q. refl) refl (blockChecks h store marks j l) v e
+
+  block-refused : (r : Reason) → blockRequest h store marks j l .answer ≡ NotGiven r
+      → OneOf r (71 ∷ 53 ∷ 52 ∷ 50 ∷ []) × (blockRequest h store marks j l .lent ≡ lentLeft r (71 ∷ 53 ∷ 52 ∷ []) l)
+  unfolding blockRequest any
+  block-refused r e =
+      let t = block-told (Refused r) (ap givenSeen e) in
+      let few : Bool = ltb (heldCount marks) (h .n) && not (isHeld (getD marks j 0)) in
+      let g = leaves (blockChecks h store marks j l) r (71 ∷ 53 ∷ 52 ∷ 50 ∷ []) (l .output) (put (l .output) 0 (blockGiven h store marks j)) (refl, (refl, (refl, (refl, tt)))) t in (
+        g .number,
+        ap₂ (λ (b : Bool) (out : List ℕ). lentAfter b l out)
+            (early-told (blockLent h store marks j l) ((few, 50) ∷ []) r (71 ∷ 53 ∷ 52 ∷ []) (refl, (refl, (refl, tt))) (refl, tt) t)
+            (g .output),
+      )
+
+  block-ends : (i : BlockNumber) (p : BytePlace) → blockRequest h store marks j l .answer ≡ Unverified i p
+      → Ends (h .s) (l .output) (blockRequest h store marks j l .lent .output)
+  unfolding blockRequest
+  block-ends i p e =
+      let cs : List Check = blockChecks h store marks j l in
+      let t = block-told Good (ap givenSeen e) in
+      let q = passed cs t in
+      let w = right-lent (h .size) (h .n) (h .m) (h .s) store marks (lent-right h store marks l (q .0)) in
+      rw (lent-output (passes (blockLent h store marks j l)) l (checked cs (λ (r : Reason). l .output) (put (l .output) 0 (blockGiven h store marks j))))
+      (ends cs (l .output) (blockGiven h store marks j) (h .s) t
+      (length-decode (h .n) (h .m) (h .s) marks store j (w .shape .s-even) (w .store-long) (leb-false (h .n) j (q .1 .0)))
+      (ltb-false (length (l .output)) (h .s) (q .1 .1 .0)))
+
+  block-scratch : rebuildWrong h store marks l ≡ false → j < h .n → h .s ≤ length (l .output)
+      → (blockRequest h store marks j l .lent .scratch ≡ zeros (h .m * h .s)) × (blockRequest h store marks j l .lent .numbers ≡ zeros 1024)
+  unfolding blockRequest
+  block-scratch e i o =
+      wiped (passes (blockLent h store marks j l)) l _ (h .m * h .s) 1024 (rw (e, lt-leb (h .n) j i, le-ltb (length (l .output)) (h .s) o)) (lengths h store marks l e)
+
+-- ---- prefix and missing list
+
+module _ (h : Head) (store marks out : List ℕ) where
+  prefix-told : (v : Checked) → givenSeen (prefixGiven h store marks out .answer) ≡ v → verdict (prefixChecks h store marks out) ≡ v
+  unfolding prefixGiven
+  prefix-told v e =
+      tells givenSeen NotGiven (Unverified (number (prefixBlocks h marks)) (place (length (prefixOf h store marks)))) (λ q. refl) refl (prefixChecks h store marks out) v e
+
+  prefix-refused : (r : Reason) → prefixGiven h store marks out .answer ≡ NotGiven r → Leaves r (71 ∷ 52 ∷ []) out (prefixGiven h store marks out .output)
+  unfolding prefixGiven any
+  prefix-refused r e = leaves (prefixChecks h store marks out) r (71 ∷ 52 ∷ []) out (put out 0 (prefixOf h store marks)) (refl, (refl, tt)) (prefix-told (Refused r) (ap givenSeen e))
+
+  prefix-ends : (i : BlockNumber) (p : ℕ) → prefixGiven h store marks out .answer ≡ Unverified i (place p) → Ends p out (prefixGiven h store marks out .output)
+  unfolding prefixGiven
+  prefix-ends i p e =
+      let cs : List Check = prefixChecks h store marks out in
+      let t = prefix-told Good (ap givenSeen e) in
+      let f : _≡_ {A = Given} (Unverified (number (prefixBlocks h marks)) (place (length (prefixOf h store marks)))) (Unverified i (place p)) = sym (good-all NotGiven cs _ t) ∙ e in
+      let q : place (length (prefixOf h store marks)) ≡ place p = cc in
+      let k : length (prefixOf h store marks) ≡ p = ap (λ (y : BytePlace). y .0) q in
+      ends cs out (prefixOf h store marks) p t k (omega (arith, ltb-false (length out) (length (prefixOf h store marks)) (passed cs t .1 .0)))
+
+module _ (size n m s : ℕ) (marks out : List ℕ) where
+  missing-told : (v : Checked) → listedSeen (listMissing size n m s marks out .answer) ≡ v → verdict (missingChecks size n m s marks out) ≡ v
+  unfolding listMissing
+  missing-told v e = tells listedSeen NotListed (Count (length (missing n marks))) (λ q. refl) refl (missingChecks size n m s marks out) v e
+
+  missing-refused : (r : Reason) → listMissing size n m s marks out .answer ≡ NotListed r → Leaves r (71 ∷ 52 ∷ []) out (listMissing size n m s marks out .output)
+  unfolding listMissing any
+  missing-refused r e = leaves (missingChecks size n m s marks out) r (71 ∷ 52 ∷ []) out (put out 0 (missing n marks)) (refl, (refl, tt)) (missing-told (Refused r) (ap listedSeen e))
+
+  missing-ends : (k : ℕ) → listMissing size n m s marks out .answer ≡ Count k → Ends k out (listMissing size n m s marks out .output)
+  unfolding listMissing
+  missing-ends k e =
+      let cs : List Check = missingChecks size n m s marks out in
+      let t = missing-told Good (ap listedSeen e) in
+      let f : _≡_ {A = Listed} (Count (length (missing n marks))) (Count k) = sym (good-all NotListed cs _ t) ∙ e in
+      let q : length (missing n marks) ≡ k = cc in
+      ends cs out (missing n marks) k t q (omega (arith, ltb-false (length out) (length (missing n marks)) (passed cs t .1 .0)))
+
+-- ---- notes
+
+module _ (uuid : List ℕ) (size n m s : ℕ) (marks out : List ℕ) where
+  note-told : (v : Checked) → writtenSeen (writeNote uuid size n m s marks out .answer) ≡ v → verdict (noteChecks uuid size n m s marks out) ≡ v
+  unfolding writeNote
+  note-told v e = tells writtenSeen NotWritten (Took (length (noteFor uuid n marks))) (λ q. refl) refl (noteChecks uuid size n m s marks out) v e
+
+  note-refused : (r : Reason) → writeNote uuid size n m s marks out .answer ≡ NotWritten r → Leaves r (71 ∷ 52 ∷ []) out (writeNote uuid size n m s marks out .output)
+  unfolding writeNote any
+  note-refused r e = leaves (noteChecks uuid size n m s marks out) r (71 ∷ 52 ∷ []) out (put out 0 (noteFor uuid n marks)) (refl, (refl, tt)) (note-told (Refused r) (ap writtenSeen e))
+
+  note-ends : (k : ℕ) → writeNote uuid size n m s marks out .answer ≡ Took k → Ends k out (writeNote uuid size n m s marks out .output)
+  unfolding writeNote
+  note-ends k e =
+      let cs : List Check = noteChecks uuid size n m s marks out in
+      let t = note-told Good (ap writtenSeen e) in
+      let f : _≡_ {A = Written} (Took (length (noteFor uuid n marks))) (Took k) = sym (good-all NotWritten cs _ t) ∙ e in
+      let q : length (noteFor uuid n marks) ≡ k = cc in
+      ends cs out (noteFor uuid n marks) k t q (omega (arith, ltb-false (length out) (length (noteFor uuid n marks)) (passed cs t .1 .0)))
+
+module _ (b out : List ℕ) where
+  reading-told : (v : Checked) → readNote b out .answer .verdict ≡ v → verdict (readChecks b out) ≡ v
+  unfolding readNote
+  reading-told v e = tells (λ (x : NoteRead). x .verdict) refusedNote (goodNote b) (λ q. refl) refl (readChecks b out) v e
+
+  reading-refused : (r : Reason) → readNote b out .answer .verdict ≡ Refused r
+      → Leaves r (70 ∷ 52 ∷ []) out (readNote b out .output) × (readNote b out .answer ≡ refusedNote r)
+  unfolding readNote any
+  reading-refused r e =
+      let t = reading-told (Refused r) e in
+      (leaves (readChecks b out) r (70 ∷ 52 ∷ []) out (put out 0 (bounds (rangesIn b))) (refl, (refl, tt)) t, refused-all refusedNote (readChecks b out) (goodNote b) r t)
+
+  reading-ends : readNote b out .answer .verdict ≡ Good → Ends (2 * readNote b out .answer .ranges) out (readNote b out .output)
+  unfolding readNote
+  reading-ends e =
+      let cs : List Check = readChecks b out in
+      let t = reading-told Good e in
+      rw (good-all refusedNote cs (goodNote b) t)
+      (ends cs out (bounds (rangesIn b)) (2 * countIn b) t (length-bounds b 23 (countIn b)) (ltb-false (length out) (2 * countIn b) (passed cs t .1 .0)))
+
+-- ---- the writer
+
+module _ (w : Input) (out : List ℕ) where
+  writing-told : (v : Checked) → writtenSeen (writeFile w out .answer) ≡ v → verdict (writerChecks w out) ≡ v
+  unfolding writeFile
+  writing-told v e = tells writtenSeen NotWritten (Took (length (fileOf w))) (λ q. refl) refl (writerChecks w out) v e
+
+  writing-refused : (r : Reason) → writeFile w out .answer ≡ NotWritten r → Leaves r (60 ∷ 61 ∷ []) out (writeFile w out .output)
+  unfolding writeFile any
+  writing-refused r e = leaves (writerChecks w out) r (60 ∷ 61 ∷ []) out (put out 0 (fileOf w)) (refl, (refl, tt)) (writing-told (Refused r) (ap writtenSeen e))
+
+  writing-ends : (k : ℕ) → writeFile w out .answer ≡ Took k → Ends k out (writeFile w out .output)
+  unfolding writeFile
+  writing-ends k e =
+      let cs : List Check = writerChecks w out in
+      let t = writing-told Good (ap writtenSeen e) in
+      let f : _≡_ {A = Written} (Took (length (fileOf w))) (Took k) = sym (good-all NotWritten cs _ t) ∙ e in
+      let q : length (fileOf w) ≡ k = cc in
+      ends cs out (fileOf w) k t q (omega (arith, ltb-false (length out) (length (fileOf w)) (passed cs t .1 .0)))
+
+pub demand1 : Demand1
+demand1 = record {
+  header-refused = header-refused;
+  chunk-refused = chunk-refused;
+  field-inside = field-inside;
+  offer-numbers = offer-numbers;
+  offer-uncounted = offer-uncounted;
+  offer-counted = offer-counted;
+  one-offer = one-offer;
+  hand-out-refused = hand-out-refused;
+  hand-out-ends = hand-out-ends;
+  hand-out-scratch = hand-out-scratch;
+  block-refused = block-refused;
+  block-ends = block-ends;
+  block-scratch = block-scratch;
+  prefix-refused = prefix-refused;
+  prefix-ends = prefix-ends;
+  missing-refused = missing-refused;
+  missing-ends = missing-ends;
+  note-refused = note-refused;
+  note-ends = note-ends;
+  reading-refused = reading-refused;
+  reading-ends = reading-ends;
+  writing-refused = writing-refused;
+  writing-ends = writing-ends;
+}

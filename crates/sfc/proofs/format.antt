@@ -1,0 +1,11 @@
+-- Laws of limits, texts, extension fields, header, lookup and chunk.
+pub mod LimitLaws
+pub mod TextLaws
+pub mod ListLaws
+pub mod ExtensionLaws
+pub mod HeaderLaws
+pub mod ChunkLaws
+pub mod LookupLaws
+pub mod FieldInside
+pub mod ReservedLaws
+pub mod PlaceLaws

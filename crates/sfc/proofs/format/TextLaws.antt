@@ -1,0 +1,46 @@
+-- A turn of the loops that compare bytes at a place and measure a name. Assumes nothing.
+use Prim.Native.Nat.{ℕ, zero, suc, _+_, _-_, _<_, _≤_}
+use mathlib.Core.Path.{_≡_, refl, sym, ap, _∙_}
+use mathlib.Core.Bool.{Bool, true, _&&_}
+use mathlib.Core.List.{List, [], _∷_}
+use native.Mathlib.Omega.{arith}
+use lib.Dec.{eqb}
+use lib.ListN.{length, getD, drop}
+use lib.Seq.{drop-length}
+use Rattle.little.proofs.PartLaws.{drop-down}
+use Rattle.sfc.specs.format.Bytes.{standsAt, beforeZero}
+
+pub stands-start : (s : List ℕ) (at : ℕ) (wanted : List ℕ) → true ≡ standsAt s (at + length wanted) (drop (length wanted) wanted)
+unfolding standsAt
+stands-start s at wanted = rw drop-length
+
+pub stands-turn : (s wanted : List ℕ) (at i : ℕ) (same : Bool) → 0 < i → i ≤ length wanted → same ≡ standsAt s (at + i) (drop i wanted)
+    → (eqb (getD s (at + (i - 1)) 0) (getD wanted (i - 1) 0) && same) ≡ standsAt s (at + (i - 1)) (drop (i - 1) wanted)
+unfolding standsAt
+stands-turn s wanted at i same h k e =
+    let f : suc (at + (i - 1)) ≡ at + i = omega arith in
+    rw (drop-down wanted i h k, f, e)
+
+name-front : (x : ℕ) (xs : List ℕ) → (x ≡ 0 → ⊥) → length (beforeZero (x ∷ xs)) ≡ length (beforeZero xs) + 1
+unfolding beforeZero
+name-front zero xs h = absurd (h refl)
+name-front (suc x) xs h = omega arith
+
+pub name-start : (xs : List ℕ) → 0 ≡ length (beforeZero (drop (length xs) xs))
+unfolding beforeZero
+name-start xs = rw drop-length
+
+pub name-ends : (xs : List ℕ) (i : ℕ) → 0 < i → i ≤ length xs → getD xs (i - 1) 0 ≡ 0 → 0 ≡ length (beforeZero (drop (i - 1) xs))
+unfolding beforeZero
+name-ends xs i h k e = rw (drop-down xs i h k, e)
+
+pub name-more : (xs : List ℕ) (i n : ℕ) → 0 < i → i ≤ length xs → (getD xs (i - 1) 0 ≡ 0 → ⊥) → n ≡ length (beforeZero (drop i xs))
+    → n + 1 ≡ length (beforeZero (drop (i - 1) xs))
+name-more xs i n h k d e = rw (drop-down xs i h k) (ap (λ (m : ℕ). m + 1) e ∙ sym (name-front (getD xs (i - 1) 0) (drop i xs) d))
+
+-- a name is no longer than its field
+pub name-fits : (xs : List ℕ) → length (beforeZero xs) ≤ length xs
+unfolding beforeZero
+name-fits [] = omega arith
+name-fits (zero ∷ xs) = omega arith
+name-fits (suc x ∷ xs) = omega (arith, name-fits xs)

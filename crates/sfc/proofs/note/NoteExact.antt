@@ -1,0 +1,170 @@
+-- NoteTheorems of specs/note/NoteTheorems.antt: the bytes that the reader takes are those of notes, and the writer's are among
+-- them. Assumes nothing.
+use Prim.Native.Nat.{ℕ, zero, suc, _+_, _*_, _^_, _≤_, _<_}
+use mathlib.Core.Path.{_≡_, refl, sym, ap, ap₂, _∙_}
+use mathlib.Core.Bool.{Bool, true, false, cond, not, _||_}
+use mathlib.Core.Logic.{⊎-elim}
+use mathlib.Core.List.{List, [], _∷_, _++_, append-assoc}
+use native.Mathlib.Omega.{arith}
+use borrow.Author.Tests.{eqb-true, not-false}
+use lib.Dec.{eqb}
+use lib.ListN.{length, getD, take, drop, take-append-drop, drop-of-length-le}
+use lib.Seq.{drop-drop, drop-cons, length-take-le}
+use Rattle.little.specs.Parts.{part}
+use Rattle.little.specs.Fields.{Bytes}
+use Rattle.little.proofs.PartLaws.{below-or, length-part}
+use Rattle.little.proofs.TestLaws.{or-false}
+use Rattle.little.proofs.FieldLaws.{bytes-part}
+use Rattle.sfc.specs.session.Marks.{isHeld, heldCount, marksWrong}
+use Rattle.sfc.specs.note.Missing.{Range, unheldFrom, missing, putBefore, ranges, apartFrom, maximal}
+use Rattle.sfc.specs.note.Note.{be, bigBytes, pairsBytes, noteOf, uuidIn, countIn, pairsFrom, rangesIn, malformed}
+use Rattle.sfc.specs.note.NoteTheorems.{Small, Sayable, NoteTheorems}
+use Rattle.sfc.proofs.note.MissingLaws.{missing-none, missing-all}
+use Rattle.sfc.proofs.session.MarkLaws.{right-marks}
+use Rattle.sfc.proofs.note.BigLaws.{be-bound, bytes-back}
+use Rattle.sfc.proofs.note.MissingExact.{missing-rises}
+use Rattle.sfc.proofs.note.RangesExact.{apart, ranges-exact}
+use Rattle.sfc.proofs.note.NoteBack.{well-formed, note-read-back}
+use Rattle.sfc.proofs.note.NoteLaws.{length-pairsFrom}
+
+-- ---- bytes that are taken are a note
+
+-- the rest of a list, a part of it at the front
+next-part : (b : List ℕ) (at n next : ℕ) → at + n ≡ next → drop at b ≡ part b at n ++ drop next b
+next-part b at n next e = sym (ap (λ (r : List ℕ). part b at n ++ r) (ap (λ (k : ℕ). drop k b) (sym e) ∙ sym (drop-drop n at b)) ∙ take-append-drop n (drop at b))
+
+next-big : (b : List ℕ) → Bytes b → (at n next : ℕ) → at + n ≡ next → next ≤ length b → drop at b ≡ bigBytes n (be b at n) ++ drop next b
+next-big b y at n next e h = next-part b at n next e ∙ ap (λ (l : List ℕ). l ++ drop next b) (sym (bytes-back n b y at (omega arith)))
+
+pairs-there : (b : List ℕ) → Bytes b → (at k : ℕ) → at + 8 * k ≡ length b → drop at b ≡ pairsBytes (pairsFrom b at k)
+unfolding pairsBytes pairsFrom
+pairs-there b y at zero e = drop-of-length-le b {i = at} (omega arith)
+pairs-there b y at (suc k) e =
+    next-big b y at 4 (at + 4) refl (omega arith)
+    ∙ ap (λ (l : List ℕ). bigBytes 4 (be b at 4) ++ l)
+    (next-big b y (at + 4) 4 (at + 8) (omega arith) (omega arith)
+    ∙ ap (λ (l : List ℕ). bigBytes 4 (be b (at + 4) 4) ++ l) (pairs-there b y (at + 8) k (omega arith)))
+    ∙ sym (append-assoc (bigBytes 4 (be b at 4)) (bigBytes 4 (be b (at + 4) 4)) (pairsBytes (pairsFrom b (at + 8) k)))
+
+small-pairs : (b : List ℕ) → Bytes b → (at k : ℕ) → Small (pairsFrom b at k)
+unfolding pairsFrom
+small-pairs b y at zero = tt
+small-pairs b y at (suc k) = (be-bound 4 b y at, be-bound 4 b y (at + 4), small-pairs b y (at + 8) k)
+
+-- the four tests
+record WellFormed (b : List ℕ) : Type 0 where
+  pub long : length b ≡ 23 + 8 * countIn b
+  pub told : be b 0 4 ≡ 19 + 8 * countIn b
+  pub version : getD b 4 0 ≡ 1
+  pub rise : maximal (rangesIn b) ≡ true
+
+tests : (b : List ℕ) → malformed b ≡ false → WellFormed b
+unfolding malformed
+tests b e =
+    let p = not (eqb (length b) (23 + 8 * countIn b)) in
+    let q = not (eqb (be b 0 4) (19 + 8 * countIn b)) in
+    let v = not (eqb (getD b 4 0) 1) in
+    let x = or-false (p || q || v) (not (maximal (rangesIn b))) e in
+    let z = or-false (p || q) v (x .0) in
+    let w = or-false p q (z .0) in
+    record {
+      long = eqb-true _ _ (not-false _ (w .0));
+      told = eqb-true _ _ (not-false _ (w .1));
+      version = eqb-true _ _ (not-false _ (z .1));
+      rise = not-false _ (x .1);
+    }
+
+is-note : (b : List ℕ) → Bytes b → WellFormed b → b ≡ noteOf (uuidIn b) (rangesIn b)
+unfolding noteOf
+is-note b y w =
+    let l = w .long in
+    let n = length-pairsFrom b 23 (countIn b) in
+    let version : drop 4 b ≡ 1 ∷ drop 5 b = drop-cons b 4 0 (omega arith) ∙ ap (λ (x : ℕ). x ∷ drop 5 b) (w .version) in
+    let uuid : drop 5 b ≡ part b 5 16 ++ drop 21 b = next-part b 5 16 21 refl in
+    let count : drop 21 b ≡ bigBytes 2 (countIn b) ++ drop 23 b = next-big b y 21 2 23 refl (omega arith) in
+    let pairs : drop 23 b ≡ pairsBytes (rangesIn b) = pairs-there b y 23 (countIn b) (sym l) in
+    next-big b y 0 4 4 refl (omega arith)
+    ∙ ap₂ (λ (k : ℕ) (r : List ℕ). bigBytes 4 k ++ r) (w .told) (version ∙ ap (λ (r : List ℕ). 1 ∷ r) (uuid ∙ ap (λ (r : List ℕ). part b 5 16 ++ r) (count ∙ ap (λ (r : List ℕ). bigBytes 2 (countIn b) ++ r) pairs)))
+    ∙ ap (λ (k : ℕ). bigBytes 4 (19 + 8 * k) ++ (1 ∷ (uuidIn b ++ (bigBytes 2 k ++ pairsBytes (rangesIn b))))) (sym n)
+
+sayable : (b : List ℕ) → Bytes b → WellFormed b → Sayable (uuidIn b) (rangesIn b)
+sayable b y w =
+    let l = w .long in
+    record {
+      uuid-long = length-part b 5 16 (omega arith);
+      uuid-bytes = bytes-part b 5 16 y;
+      rise = w .rise;
+      indices = small-pairs b y 23 (countIn b);
+      few = rw (length-pairsFrom b 23 (countIn b)) (be-bound 2 b y 21);
+    }
+
+-- ---- what the writer says
+
+-- each range of indices of so many marks ends among them, and ranges with a number between them are at most half as many
+abbrev Ends : ℕ → List Range → Type 0
+Ends top [] = Unit {0}
+Ends top (r ∷ rs) = (r .last < top) × Ends top rs
+
+put-ends : (top i : ℕ) (rs : List Range) → i < top → Ends top rs → Ends top (putBefore i rs)
+unfolding putBefore
+put-ends top i [] h e = (h, tt)
+put-ends top i (r ∷ rs) h e = go (eqb (suc i) (r .first))
+  where
+    go : (b : Bool) → Ends top (cond b (record { first = i; last = r .last } ∷ rs) (record { first = i; last = i } ∷ r ∷ rs))
+    go true = e
+    go false = (h, e)
+
+ends : (top j : ℕ) (ks : List ℕ) → j + length ks ≤ top → Ends top (ranges (unheldFrom j ks))
+unfolding unheldFrom ranges
+ends top j [] h = tt
+ends top j (k ∷ ks) h = go (isHeld k) (ends top (suc j) ks (omega arith))
+  where
+    go : (b : Bool) → Ends top (ranges (unheldFrom (suc j) ks)) → Ends top (ranges (cond b (unheldFrom (suc j) ks) (j ∷ unheldFrom (suc j) ks)))
+    go true e = e
+    go false e = put-ends top j (ranges (unheldFrom (suc j) ks)) (omega arith) e
+
+ends-small : (least top : ℕ) (rs : List Range) → top ≤ 2 ^ 32 → apartFrom least rs ≡ true → Ends top rs → Small rs
+ends-small least top [] h a e = tt
+ends-small least top (r ∷ rs) h a e =
+    let p = apart least r rs a in
+    (omega (arith, e .0, p .some), omega (arith, e .0), ends-small (r .last + 2) top rs h (p .rest) (e .1))
+
+half : (least top : ℕ) (rs : List Range) → least ≤ top + 1 → apartFrom least rs ≡ true → Ends top rs → 2 * length rs + least ≤ top + 1
+half least top [] h a e = omega arith
+half least top (r ∷ rs) h a e =
+    let p = apart least r rs a in
+    omega (arith, p .from, p .some, half (r .last + 2) top rs (omega (arith, e .0)) (p .rest) (e .1))
+
+missing-ends : (n : ℕ) (marks : List ℕ) → n ≤ length marks → Ends n (ranges (missing n marks))
+missing-ends n marks h =
+    ⊎-elim (λ (p : heldCount marks < n). rw (missing-all n marks p) (ends n 0 (take n marks) (omega (arith, length-take-le n marks h))))
+    (λ (p : n ≤ heldCount marks). rw (missing-none n marks p) (ends n 0 [] (omega arith)))
+    (below-or (heldCount marks) n)
+
+note-written : (uuid : List ℕ) (size n m s : ℕ) (marks : List ℕ) → length uuid ≡ 16 → Bytes uuid → marksWrong size n m s marks ≡ false
+    → Sayable uuid (ranges (missing n marks)) × (length (ranges (missing n marks)) ≤ 512)
+note-written uuid size n m s marks u y e =
+    let r = right-marks size n m s marks e in
+    let f = r .shape .n-most in
+    let z = missing-ends n marks (omega (arith, r .marks-long)) in
+    let a = ranges-exact .rise (missing n marks) (missing-rises n marks) in
+    let k = half 0 n (ranges (missing n marks)) (omega arith) a z in (
+      record {
+        uuid-long = u;
+        uuid-bytes = y;
+        rise = a;
+        indices = ends-small 0 n (ranges (missing n marks)) (omega arith) a z;
+        few = omega arith;
+      },
+      omega arith,
+    )
+
+pub note-theorems : NoteTheorems
+note-theorems = record {
+  note-read-back = note-read-back;
+  note-exact = λ b y. (
+    λ e. let w = tests b e in (uuidIn b, rangesIn b, sayable b y w, is-note b y w),
+    λ x. ap malformed (x .3) ∙ well-formed (x .0) (x .1) (x .2),
+  );
+  note-written = note-written;
+}

@@ -1,0 +1,12 @@
+-- Laws of marks, tallies and offers; histories; what a session of an accepted header is (RightLaws).
+pub mod MarkLaws
+pub mod TallyLaws
+pub mod SessionLaws
+pub mod BlockSteps
+pub mod HistoryLaws
+pub mod OfferLaws
+pub mod CountLaws
+pub mod EndLaws
+pub mod HeldLaws
+pub mod RightLaws
+pub mod DifferentLaws

@@ -1,0 +1,113 @@
+-- How long a hash, a chunk, lists joined, and the parts of a written file are. Assumes nothing.
+use Prim.Native.Nat.{ℕ, zero, suc, _+_, _*_, _<_}
+use mathlib.Core.Path.{_≡_, refl, sym, ap, ap₂, _∙_}
+use mathlib.Core.Bool.{Bool, true, false, cond}
+use mathlib.Core.List.{List, [], _∷_, _++_, append-assoc, append-nil}
+use native.Mathlib.Nat.{suc-mul, zero-mul}
+use native.Mathlib.Omega.{arith}
+use lib.Dec.{leb}
+use lib.ListN.{length, length-append}
+use Rattle.little.specs.Fields.{bytesOf}
+use Rattle.little.proofs.FieldLaws.{long}
+use Rattle.blake3.specs.Compress.{compressed, folded, bytesOfWords}
+use Rattle.blake3.specs.Tree.{piece, parent, tree, hash}
+use Rattle.cauchy.specs.Code.{joined}
+use Rattle.cauchy.proofs.CodeLaws.{length-code}
+use Rattle.sfc.specs.format.Limits.{shapeWrong}
+use Rattle.sfc.specs.writing.Writer.{Input, size, blocks, dataOf, payload, trailerBytes, sealed, chunkHeader, chunkBytes}
+use Rattle.sfc.proofs.writing.LayoutLaws.{length-header, length-padded}
+use Rattle.sfc.proofs.format.LimitLaws.{wanted-holds}
+use Rattle.sfc.proofs.session.MarkLaws.{RightShape, right-shape}
+
+-- ---- a hash has 32 bytes
+
+length-pick : (b : Bool) (x y : List ℕ) → length x ≡ 8 → length y ≡ 8 → length (cond b x y) ≡ 8
+length-pick true x y h k = h
+length-pick false x y h k = k
+
+length-piece : (i root : ℕ) (xs : List ℕ) → length (piece i root xs) ≡ 8
+unfolding piece compressed folded
+length-piece i root xs = refl
+
+length-parent : (root : ℕ) (l r : List ℕ) → length (parent root l r) ≡ 8
+unfolding parent compressed folded
+length-parent root l r = refl
+
+length-tree : (d i root : ℕ) (xs : List ℕ) → length (tree d i root xs) ≡ 8
+unfolding tree
+length-tree zero i root xs = length-piece i root xs
+length-tree (suc d) i root xs = length-pick (leb (length xs) 1024) _ _ (length-piece i root xs) (length-parent root _ _)
+
+length-words : (ws : List ℕ) → length (bytesOfWords ws) ≡ 4 * length ws
+unfolding bytesOfWords
+length-words [] = refl
+length-words (w ∷ ws) = length-append (bytesOf 4 w) (bytesOfWords ws) ∙ omega (arith, long 4 w, length-words ws)
+
+pub length-hash : (xs : List ℕ) → length (hash xs) ≡ 32
+unfolding hash
+length-hash xs = omega (arith, length-words (tree (length xs) 0 8 xs), length-tree (length xs) 0 8 xs)
+
+pub length-sealed : (b : List ℕ) → length (sealed b) ≡ 36 + length b
+unfolding sealed
+length-sealed b = simp (length-append, length-hash) (omega arith)
+
+pub length-chunk : (uuid : List ℕ) (n m s i : ℕ) (payload : List ℕ) → length uuid ≡ 16 → length (chunkBytes uuid n m s i payload) ≡ 84 + length payload
+unfolding chunkBytes
+length-chunk uuid n m s i payload u =
+    length-sealed (chunkHeader uuid n m s i ++ payload)
+    ∙ omega (arith, length-append (chunkHeader uuid n m s i) payload, length-header uuid n m s i u)
+
+-- ---- lists joined
+
+pub joined-append : (f : ℕ → List ℕ) (c a b : ℕ) → joined f c (a + b) ≡ joined f c a ++ joined f (c + a) b
+unfolding joined
+joined-append f c zero b = let e : 0 + b ≡ b = omega arith in let g : c ≡ c + 0 = omega arith in ap₂ (λ (i n : ℕ). joined f i n) g e
+joined-append f c (suc a) b =
+    let e : suc a + b ≡ suc (a + b) = omega arith in
+    let g : suc c + a ≡ c + suc a = omega arith in
+    ap (λ (n : ℕ). joined f c n) e
+    ∙ ap (λ (l : List ℕ). f c ++ l) (joined-append f (suc c) a b ∙ ap (λ (n : ℕ). joined f (suc c) a ++ joined f n b) g)
+    ∙ sym (append-assoc (f c) (joined f (suc c) a) (joined f (c + suc a) b))
+
+pub joined-one : (f : ℕ → List ℕ) (c : ℕ) → joined f c 1 ≡ f c
+unfolding joined
+joined-one f c = append-nil (f c)
+
+pub joined-same : (f g : ℕ → List ℕ) (c d n : ℕ) → ((k : ℕ) → k < n → f (c + k) ≡ g (d + k)) → joined f c n ≡ joined g d n
+unfolding joined
+joined-same f g c d zero h = refl
+joined-same f g c d (suc n) h =
+    let e : c + 0 ≡ c = omega arith in
+    let e′ : d + 0 ≡ d = omega arith in
+    ap₂ _++_ (rw (e, e′) at (h 0 (omega arith)))
+    (joined-same f g (suc c) (suc d) n (λ k u.
+    let p : c + suc k ≡ suc c + k = omega arith in
+    let q : d + suc k ≡ suc d + k = omega arith in
+    rw (p, q) at (h (suc k) (omega arith))))
+
+pub length-joined : (f : ℕ → List ℕ) (c n k : ℕ) → ((i : ℕ) → i < n → length (f (c + i)) ≡ k) → length (joined f c n) ≡ n * k
+unfolding joined
+length-joined f c zero k h = sym (zero-mul k)
+length-joined f c (suc n) k h =
+    let e : c + 0 ≡ c = omega arith in
+    let z : length (f c) ≡ k = rw e at (h 0 (omega arith)) in
+    let r = length-joined f (suc c) n k (λ i u. let p : c + suc i ≡ suc c + i = omega arith in rw p at (h (suc i) (omega arith))) in
+    length-append (f c) (joined f (suc c) n) ∙ omega (arith, z, r, suc-mul n k)
+
+-- ---- the trailer, the data and the payloads of a file
+
+pub length-trailer : (digest : List ℕ) (time : ℕ) → length digest ≡ 32 → length (trailerBytes digest time) ≡ 64
+unfolding trailerBytes
+length-trailer digest time d = simp (length-append, long, d)
+
+module _ (w : Input) (right : shapeWrong (size w) (blocks w) (w .m) (w .s) ≡ false) where
+  shape : RightShape (size w) (blocks w) (w .m) (w .s)
+  shape = right-shape (size w) (blocks w) (w .m) (w .s) right
+
+  pub length-data : length (dataOf w) ≡ blocks w * w .s
+  unfolding dataOf
+  length-data = length-padded (blocks w * w .s) (w .content) (wanted-holds (size w) (w .s) (omega (arith, shape .s-least)) .1)
+
+  pub length-payload : (i : ℕ) → length (payload w i) ≡ w .s
+  unfolding payload
+  length-payload i = length-code (blocks w) (w .m) (w .s) (dataOf w) i (shape .s-even) length-data

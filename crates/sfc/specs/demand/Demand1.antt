@@ -1,0 +1,111 @@
+-- Demand 1 of the minutes: anything may come in. For each public call of the crate that can refuse: which numbers a refusal can
+-- have, what it leaves of what was lent, and that an answer changes the output no further than it reaches. Statements, proved in
+-- proofs/demand/Demand1.antt. Bytes are any bytes, numbers any numbers, and what is lent may have any length; a slice that a call cannot
+-- change is not named.
+use Prim.Native.Nat.{ℕ, _+_, _*_, _≤_, _<_}
+use mathlib.Core.Path.{_≡_}
+use mathlib.Core.Bool.{true, false, not}
+use mathlib.Core.List.{List, [], _∷_}
+use lib.ListN.{length, drop}
+use Rattle.little.specs.Runs.{zeros, among}
+use Rattle.sfc.specs.answer.Numbers.{numberOf}
+use Rattle.sfc.specs.format.Header.{readHeader, refusedHeader}
+use Rattle.sfc.specs.format.Chunk.{place, checkChunk}
+use Rattle.sfc.specs.format.Lookup.{findField}
+use Rattle.sfc.specs.session.Tallies.{countedRefusal}
+use Rattle.sfc.specs.session.Session.{Session, verdictOf, after}
+use Rattle.sfc.specs.session.SessionTheorems.{OneOffer}
+use Rattle.sfc.specs.give.HandOut.{Lent, rebuildWrong, lentAfter, handOut}
+use Rattle.sfc.specs.give.Block.{blockRequest}
+use Rattle.sfc.specs.give.Prefix.{prefixGiven}
+use Rattle.sfc.specs.note.Missing.{listMissing}
+use Rattle.sfc.specs.note.Note.{writeNote, refusedNote, readNote}
+use Rattle.sfc.specs.writing.Writer.{Input, writeFile}
+use Rattle.sfc.specs.declared.format.header.Head.{Head}
+use Rattle.sfc.specs.declared.answer.places.BlockNumber.{BlockNumber}
+use Rattle.sfc.specs.declared.answer.places.BytePlace.{BytePlace}
+use Rattle.sfc.specs.declared.answer.reason.Reason.{Reason}
+use Rattle.sfc.specs.declared.answer.reason.Checked.the-variants.{Good, Refused}
+use Rattle.sfc.specs.declared.format.chunk.ChunkChecked.the-variants.{Refused as NoChunk}
+use Rattle.sfc.specs.declared.format.lookup.FieldFound.the-variants.{At}
+use Rattle.sfc.specs.declared.session.offer.Verdict.the-variants.{Refused as NotTaken}
+use Rattle.sfc.specs.declared.give.hand_out.HandedOut.the-variants.{Complete, Refused as NotHandedOut}
+use Rattle.sfc.specs.declared.give.prefix.Given.the-variants.{Unverified, Refused as NotGiven}
+use Rattle.sfc.specs.declared.note.missing.Listed.the-variants.{Count, Refused as NotListed}
+use Rattle.sfc.specs.declared.answer.written.Written.the-variants.{Bytes as Took, Refused as NotWritten}
+
+-- ---- the words of the demand
+
+-- the reason's number is one of these
+abbrev pub OneOf : Reason → List ℕ → Type 0
+OneOf r ks = among (numberOf r) ks ≡ true
+
+-- a refusal by one of these numbers, with the lent output as it was
+pub record Leaves (r : Reason) (ks before after : List ℕ) : Type 0 where
+  pub number : OneOf r ks
+  pub output : after ≡ before
+
+-- an answer that ends at place k: behind it the output is as it was
+pub record Ends (k : ℕ) (before after : List ℕ) : Type 0 where
+  pub long : length after ≡ length before
+  pub behind : drop k after ≡ drop k before
+
+-- what a refusal leaves of scratch and output: with the numbers ks all is as it was; with others scratch is all zeros
+abbrev pub lentLeft : Reason → List ℕ → Lent → Lent
+lentLeft r ks l = lentAfter (not (among (numberOf r) ks)) l (l .output)
+
+-- ---- the demand
+
+pub record Demand1 : Type 0 where
+  -- A header: 10 to 23, and of the head nothing but zeros.
+  pub header-refused : (b : List ℕ) (r : Reason) → readHeader b .verdict ≡ Refused r
+      → (10 ≤ numberOf r) × (numberOf r ≤ 23) × (readHeader b ≡ refusedHeader r)
+  -- A chunk by itself: 71 or 30 to 40.
+  pub chunk-refused : (h : Head) (c : List ℕ) (r : Reason) → checkChunk h c ≡ NoChunk r
+      → OneOf r (71 ∷ 30 ∷ 31 ∷ 32 ∷ 33 ∷ 34 ∷ 35 ∷ 36 ∷ 37 ∷ 38 ∷ 39 ∷ 40 ∷ [])
+  -- The place of a field: there is no refusal, and what is found lies in the input.
+  pub field-inside : (b : List ℕ) (tag p long : ℕ) → findField b tag ≡ At (place p) long → p + long ≤ length b
+  -- An offer: 71, 43 or 30 to 42. By 71 and 43 nothing changes at all; any other adds one to its own tally. Store and marks stay
+  -- by every number but 41, which bars its index.
+  pub offer-numbers : (h : Head) (x : Session) (c : List ℕ) (r : Reason) → verdictOf h x c ≡ NotTaken r
+      → OneOf r (71 ∷ 43 ∷ 30 ∷ 31 ∷ 32 ∷ 33 ∷ 34 ∷ 35 ∷ 36 ∷ 37 ∷ 38 ∷ 39 ∷ 40 ∷ 41 ∷ 42 ∷ [])
+  pub offer-uncounted : (h : Head) (x : Session) (c : List ℕ) (r : Reason) → verdictOf h x c ≡ NotTaken r → OneOf r (71 ∷ 43 ∷ [])
+      → after h x c ≡ x
+  pub offer-counted : (h : Head) (x : Session) (c : List ℕ) (r : Reason) → verdictOf h x c ≡ NotTaken r
+      → after h x c .tallies ≡ countedRefusal (x .tallies) (numberOf r)
+  pub one-offer : OneOffer
+  -- A hand-out: 71, 52, 50 or 51. Scratch is all zeros after every answer past 71 and 52.
+  pub hand-out-refused : (h : Head) (store marks : List ℕ) (l : Lent) (r : Reason) → handOut h store marks l .answer ≡ NotHandedOut r
+      → OneOf r (71 ∷ 52 ∷ 50 ∷ 51 ∷ []) × (handOut h store marks l .lent ≡ lentLeft r (71 ∷ 52 ∷ []) l)
+  pub hand-out-ends : (h : Head) (store marks : List ℕ) (l : Lent) (p : ℕ) → handOut h store marks l .answer ≡ Complete (place p)
+      → Ends p (l .output) (handOut h store marks l .lent .output)
+  pub hand-out-scratch : (h : Head) (store marks : List ℕ) (l : Lent) → rebuildWrong h store marks l ≡ false → h .size ≤ length (l .output)
+      → (handOut h store marks l .lent .scratch ≡ zeros (h .m * h .s)) × (handOut h store marks l .lent .numbers ≡ zeros 1024)
+  -- A request for one block: 71, 53, 52 or 50, and the like.
+  pub block-refused : (h : Head) (store marks : List ℕ) (j : ℕ) (l : Lent) (r : Reason) → blockRequest h store marks j l .answer ≡ NotGiven r
+      → OneOf r (71 ∷ 53 ∷ 52 ∷ 50 ∷ []) × (blockRequest h store marks j l .lent ≡ lentLeft r (71 ∷ 53 ∷ 52 ∷ []) l)
+  pub block-ends : (h : Head) (store marks : List ℕ) (j : ℕ) (l : Lent) (i : BlockNumber) (p : BytePlace)
+      → blockRequest h store marks j l .answer ≡ Unverified i p → Ends (h .s) (l .output) (blockRequest h store marks j l .lent .output)
+  pub block-scratch : (h : Head) (store marks : List ℕ) (j : ℕ) (l : Lent) → rebuildWrong h store marks l ≡ false → j < h .n → h .s ≤ length (l .output)
+      → (blockRequest h store marks j l .lent .scratch ≡ zeros (h .m * h .s)) × (blockRequest h store marks j l .lent .numbers ≡ zeros 1024)
+  -- The prefix and the missing list: 71 or 52.
+  pub prefix-refused : (h : Head) (store marks out : List ℕ) (r : Reason) → prefixGiven h store marks out .answer ≡ NotGiven r
+      → Leaves r (71 ∷ 52 ∷ []) out (prefixGiven h store marks out .output)
+  pub prefix-ends : (h : Head) (store marks out : List ℕ) (i : BlockNumber) (p : ℕ) → prefixGiven h store marks out .answer ≡ Unverified i (place p)
+      → Ends p out (prefixGiven h store marks out .output)
+  pub missing-refused : (size n m s : ℕ) (marks out : List ℕ) (r : Reason) → listMissing size n m s marks out .answer ≡ NotListed r
+      → Leaves r (71 ∷ 52 ∷ []) out (listMissing size n m s marks out .output)
+  pub missing-ends : (size n m s : ℕ) (marks out : List ℕ) (k : ℕ) → listMissing size n m s marks out .answer ≡ Count k
+      → Ends k out (listMissing size n m s marks out .output)
+  -- A note: 71 or 52 to write one, 70 or 52 to read one, and then of the UUID nothing but zeros.
+  pub note-refused : (uuid : List ℕ) (size n m s : ℕ) (marks out : List ℕ) (r : Reason) → writeNote uuid size n m s marks out .answer ≡ NotWritten r
+      → Leaves r (71 ∷ 52 ∷ []) out (writeNote uuid size n m s marks out .output)
+  pub note-ends : (uuid : List ℕ) (size n m s : ℕ) (marks out : List ℕ) (k : ℕ) → writeNote uuid size n m s marks out .answer ≡ Took k
+      → Ends k out (writeNote uuid size n m s marks out .output)
+  pub reading-refused : (b out : List ℕ) (r : Reason) → readNote b out .answer .verdict ≡ Refused r
+      → Leaves r (70 ∷ 52 ∷ []) out (readNote b out .output) × (readNote b out .answer ≡ refusedNote r)
+  pub reading-ends : (b out : List ℕ) → readNote b out .answer .verdict ≡ Good → Ends (2 * readNote b out .answer .ranges) out (readNote b out .output)
+  -- The writer: 60 or 61.
+  pub writing-refused : (w : Input) (out : List ℕ) (r : Reason) → writeFile w out .answer ≡ NotWritten r
+      → Leaves r (60 ∷ 61 ∷ []) out (writeFile w out .output)
+  pub writing-ends : (w : Input) (out : List ℕ) (k : ℕ) → writeFile w out .answer ≡ Took k → Ends k out (writeFile w out .output)

@@ -1,0 +1,53 @@
+-- The extension fields of a header region (document 01, "The bytes"). Assumes nothing: these are definitions.
+use Prim.Native.Nat.{ℕ, zero, suc, _+_, _*_}
+use mathlib.Core.Bool.{Bool, true, cond, not, _&&_, _||_}
+use mathlib.Core.List.{List, [], _∷_, _++_, map}
+use lib.Dec.{ltb, leb, eqb}
+use lib.ListN.{length, drop}
+use Rattle.little.specs.Parts.{part}
+use Rattle.little.specs.Fields.{le, bytesOf}
+use Rattle.sfc.specs.format.Bytes.{bit}
+use Rattle.little.specs.Runs.{any, risingFrom}
+
+pub record Field : Type 0 where
+  pub tag : ℕ
+  pub value : List ℕ
+
+-- a field as it is stored: tag (2 bytes), length (4), value
+abbrev pub fieldBytes : Field → List ℕ
+fieldBytes f = bytesOf 2 (f .tag) ++ bytesOf 4 (length (f .value)) ++ f .value
+
+-- the field at the front of e
+abbrev pub fieldAt : List ℕ → Field
+fieldAt e = record { tag = le e 0 2; value = part e 6 (le e 2 4) }
+
+-- whether all of it is there
+unfoldable pub wholeField : List ℕ → Bool
+wholeField e = leb 6 (length e) && leb (6 + le e 2 4) (length e)
+
+-- the whole fields from the front of e on, and what is left behind them; the first argument only bounds their number
+unfoldable pub fieldsIn : ℕ → List ℕ → List Field
+fieldsIn zero e = []
+fieldsIn (suc most) e = cond (wholeField e) (fieldAt e ∷ fieldsIn most (drop (6 + le e 2 4) e)) []
+
+unfoldable pub leftIn : ℕ → List ℕ → List ℕ
+leftIn zero e = e
+leftIn (suc most) e = cond (wholeField e) (leftIn most (drop (6 + le e 2 4) e)) e
+
+-- the rules for a field of this tag and length, in a header of so many blocks (N+M) and these flags
+unfoldable pub ruleBroken : ℕ → ℕ → ℕ → ℕ → Bool
+ruleBroken blocks flags tag len =
+    ltb 16384 len
+    || (eqb tag 0x0020 && not (eqb len (8 * blocks) && bit 6 flags))
+    || (eqb tag 0x0030 && not (eqb len 2 && bit 7 flags))
+    || (leb 0x0100 tag && leb tag 0x0104 && not (leb 1 len && leb len 4096))
+
+abbrev pub fieldWrong : ℕ → ℕ → Field → Bool
+fieldWrong blocks flags f = ruleBroken blocks flags (f .tag) (length (f .value))
+
+-- 21, of the bytes e behind the priority list: the fields do not fill them, or do not rise, or one breaks a rule
+unfoldable pub extensionWrong : ℕ → ℕ → List ℕ → Bool
+extensionWrong blocks flags e =
+    ltb 0 (length (leftIn (length e) e))
+    || not (risingFrom 0 (map (λ (f : Field). f .tag) (fieldsIn (length e) e)))
+    || any (fieldWrong blocks flags) (fieldsIn (length e) e)

@@ -1,0 +1,61 @@
+-- What is proved of the missing list, of ranges and of notes (document 01, "Resend note and listing"; minutes, demand 3):
+-- statements. Proved in proofs/note/MissingExact, RangesExact, NoteBack and NoteExact.
+use Prim.Native.Nat.{ℕ, _*_, _^_, _≤_, _<_}
+use mathlib.Core.Path.{_≡_}
+use mathlib.Core.Logic.{_↔_}
+use mathlib.Core.Bool.{Bool, true, false, not, _&&_}
+use mathlib.Core.List.{List, [], _∷_}
+use lib.Dec.{leb, ltb, eqb}
+use lib.ListN.{length, getD}
+use Rattle.little.specs.Parts.{put}
+use Rattle.little.specs.Fields.{Bytes}
+use Rattle.little.specs.Runs.{any, among, risingFrom}
+use Rattle.sfc.specs.session.Marks.{isHeld, heldCount, marksWrong}
+use Rattle.sfc.specs.answer.Numbers.{Answered}
+use Rattle.sfc.specs.note.Missing.{missing, Range, ranges, maximal}
+use Rattle.sfc.specs.note.Note.{noteOf, malformed, bounds, readNote}
+use Rattle.sfc.specs.declared.note.resend.NoteRead.{NoteRead}
+use Rattle.sfc.specs.declared.answer.reason.Checked.the-variants.{Good}
+
+abbrev pub covered : ℕ → List Range → Bool
+covered i rs = any (λ (r : Range). leb (r .first) i && leb i (r .last)) rs
+
+-- an index is missing exactly if it is that of a data block, too few are held and it is not; each is listed once, rising
+pub record MissingExact : Type 0 where
+  pub exact : (n : ℕ) (marks : List ℕ) → n ≤ length marks → (i : ℕ)
+      → among i (missing n marks) ≡ (ltb (heldCount marks) n && (ltb i n && not (isHeld (getD marks i 0))))
+  pub rising : (n : ℕ) (marks : List ℕ) → risingFrom 0 (missing n marks) ≡ true
+
+-- the ranges of a rising list are maximal and have just its numbers, and no other maximal ranges have the same
+pub record RangesExact : Type 0 where
+  pub rise : (is : List ℕ) → risingFrom 0 is ≡ true → maximal (ranges is) ≡ true
+  pub cover : (is : List ℕ) → risingFrom 0 is ≡ true → (i : ℕ) → covered i (ranges is) ≡ among i is
+  pub only-one : (rs qs : List Range) → maximal rs ≡ true → maximal qs ≡ true → ((i : ℕ) → covered i rs ≡ covered i qs) → rs ≡ qs
+
+-- every index has 32 bits
+abbrev pub Small : List Range → Type 0
+Small [] = Unit {0}
+Small (r ∷ rs) = (r .first < 2 ^ 32) × (r .last < 2 ^ 32) × Small rs
+
+-- what a note can say
+pub record Sayable (uuid : List ℕ) (rs : List Range) : Type 0 where
+  pub uuid-long : length uuid ≡ 16
+  pub uuid-bytes : Bytes uuid
+  pub rise : maximal rs ≡ true
+  pub indices : Small rs
+  pub few : length rs < 2 ^ 16
+
+abbrev pub taken : List ℕ → List Range → List ℕ → Answered NoteRead
+taken uuid rs out =
+    record { answer = record { verdict = Good; uuid = uuid; ranges = length rs }; output = put out 0 (bounds rs) }
+
+pub record NoteTheorems : Type 0 where
+  -- a note gives back what it says
+  pub note-read-back : (uuid : List ℕ) (rs : List Range) → Sayable uuid rs → (out : List ℕ) → 2 * length rs ≤ length out
+      → readNote (noteOf uuid rs) out ≡ taken uuid rs out
+  -- 70 is withheld exactly from the bytes of some note
+  pub note-exact : (b : List ℕ) → Bytes b
+      → (malformed b ≡ false) ↔ ((uuid : List ℕ) × (rs : List Range) × (Sayable uuid rs) × (b ≡ noteOf uuid rs))
+  -- what the writer says can be said, in at most 512 ranges
+  pub note-written : (uuid : List ℕ) (size n m s : ℕ) (marks : List ℕ) → length uuid ≡ 16 → Bytes uuid → marksWrong size n m s marks ≡ false
+      → Sayable uuid (ranges (missing n marks)) × (length (ranges (missing n marks)) ≤ 512)

@@ -1,0 +1,2 @@
+-- The file that the writer makes (Writer).
+pub mod Writer

@@ -1,0 +1,8 @@
+// The bytes of a container: its header with the lists in it, and a chunk by itself.
+pub mod chunk;
+pub mod extension;
+pub mod header;
+pub mod limits;
+pub mod lookup;
+pub mod priority;
+pub mod text;

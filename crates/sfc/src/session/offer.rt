@@ -1,0 +1,139 @@
+// The session: an offer of a chunk, and what it makes of store, marks and tallies.
+use crate::answer::places::BlockNumber;
+use crate::answer::places::BytePlace;
+use crate::answer::reason::Checked;
+use crate::answer::reason::Reason;
+use crate::format::chunk::check_all;
+use crate::format::header::Head;
+use crate::session::marks::is_marks_wrong;
+use crate::session::tallies::Tallies;
+use crate::session::tallies::is_full;
+use crate::session::tallies::with_fresh;
+use crate::session::tallies::with_refusal;
+use crate::session::tallies::with_repeat;
+ghost use mathlib.Core.Path.{_≡_};
+ghost use mathlib.Core.Bool.{true};
+ghost use Prim.Native.Nat.{_+_, _*_};
+ghost use lib.ListN.{length};
+ghost use Rattle.sfc.specs.session.Session.{Offered, offered, lentWrong};
+ghost use Rattle.sfc.specs.inner.Steps.{Stepped, stepped, Welcome};
+
+// What an offer came to: the block, and its place in the store; or the reason of a refusal.
+pub enum Verdict {
+    Fresh(BlockNumber, BytePlace),
+    Repeat(BlockNumber, BytePlace),
+    Refused(Reason),
+}
+
+pub struct OfferAnswer {
+    pub verdict: Verdict,
+    pub tallies: Tallies,
+}
+
+// What a payload met at its block.
+enum Step {
+    Laid,
+    Copy,
+    Differs,
+    Barred,
+}
+
+// 71
+pub(crate) fn is_lent_wrong(size: u64, n: u32, m: u32, s: u32, store: &[u8], marks: &[u8]) -> bool
+    ensures { λ r. ⌜ r ≡ lentWrong size n m s (now (store .entry)) (now (marks .entry)) ⌝ }
+{
+    if is_marks_wrong(size, n, m, s, marks) {
+        return true;
+    }
+    store.len() != (n as usize + m as usize) * s as usize
+}
+
+// One block meets a payload of its length.
+fn offer_block(block: &mut [u8], mark: u8, payload: &[u8]) -> Step
+    requires { ⌜ length (now block) ≡ length (now payload) ⌝ }
+    ensures { λ r. ⌜ _≡_ {A = Stepped} (record { block = now (block .exit); step = r }) (stepped mark (now (block .entry)) (now (payload .entry))) ⌝ }
+{
+    if mark == 0 {
+        bytes::copy(payload, block);
+        return Step::Laid;
+    }
+    if mark == 1 {
+        if little::is_same(block, payload) {
+            return Step::Copy;
+        }
+        little::clear8(block);
+        return Step::Differs;
+    }
+    Step::Barred
+}
+
+fn refused(reason: Reason, tallies: Tallies) -> OfferAnswer
+    ensures { λ r. ⌜ r ≡ record { verdict = Verdict.Refused reason; tallies = tallies } ⌝ }
+{
+    OfferAnswer {
+        verdict: Verdict::Refused(reason),
+        tallies,
+    }
+}
+
+// A chunk that passed every check of its own meets its block.
+fn offer_whole(
+    h: Head,
+    tallies: Tallies,
+    store: &mut [u8],
+    marks: &mut [u8],
+    chunk: &[u8],
+) -> OfferAnswer
+    requires { ⌜ Welcome h (record { store = now store; marks = now marks; tallies = tallies }) (now chunk) ⌝ }
+    ensures { λ r. ⌜ _≡_ {A = Offered} (record { session = record { store = now (store .exit); marks = now (marks .exit); tallies = r .tallies }; verdict = r .verdict }) (offered h (record { store = now (store .entry); marks = now (marks .entry); tallies = tallies }) (now (chunk .entry))) ⌝ }
+{
+    let index = little::read32(chunk, 20);
+    let i = index as usize;
+    let width = h.s as usize;
+    let at = i * width;
+    let end = at + width;
+    let payload_end = 48 + width;
+    let step = offer_block(&mut store[at..end], marks[i], &chunk[48..payload_end]);
+    let place = at as u32;
+    match step {
+        Step::Laid => {
+            marks[i] = 1;
+            OfferAnswer {
+                verdict: Verdict::Fresh(BlockNumber(index), BytePlace(place)),
+                tallies: with_fresh(tallies),
+            }
+        }
+        Step::Copy => OfferAnswer {
+            verdict: Verdict::Repeat(BlockNumber(index), BytePlace(place)),
+            tallies: with_repeat(tallies),
+        },
+        Step::Differs => {
+            marks[i] = 2;
+            refused(Reason::Conflict, with_refusal(tallies, Reason::Conflict))
+        }
+        Step::Barred => refused(Reason::Barred, with_refusal(tallies, Reason::Barred)),
+    }
+}
+
+// Any bytes may be offered as a chunk. Store and marks change only with a fresh chunk, and with a copy that differs.
+pub fn offer(
+    h: Head,
+    tallies: Tallies,
+    store: &mut [u8],
+    marks: &mut [u8],
+    chunk: &[u8],
+) -> OfferAnswer
+    ensures { λ r. ⌜ _≡_ {A = Offered} (record { session = record { store = now (store .exit); marks = now (marks .exit); tallies = r .tallies }; verdict = r .verdict }) (offered h (record { store = now (store .entry); marks = now (marks .entry); tallies = tallies }) (now (chunk .entry))) ⌝ }
+{
+    if is_lent_wrong(h.size, h.n, h.m, h.s, store, marks) {
+        return refused(Reason::Lent, tallies);
+    }
+    if is_full(tallies) {
+        return refused(Reason::TallyFull, tallies);
+    }
+    let checked = check_all(h, chunk);
+    match checked {
+        Checked::Refused(reason) => refused(reason, with_refusal(tallies, reason)),
+        Checked::Good => offer_whole(h, tallies, store, marks, chunk),
+    }
+}
