@@ -3,9 +3,9 @@
 # where that is there. A time under the emulator says nothing, so the library is compiled for this machine. Not part of the gate.
 set -euo pipefail
 cd "$(dirname "$0")/.."
-bench/native-lib blake3_speed >/dev/null
+bench/native-lib blake3_native >/dev/null
 mkdir -p target/bench
-rustc --edition 2021 -C opt-level=3 bench/blake3/main.rs -o target/bench/blake3 -L target/native -l static=blake3_speed
+rustc --edition 2021 -C opt-level=3 bench/blake3/main.rs -o target/bench/blake3 -L target/native -l static=blake3_native
 target/bench/blake3
 if command -v b3sum >/dev/null; then
   file=target/bench/text

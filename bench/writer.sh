@@ -3,8 +3,8 @@
 # of what). It wants rustc. Not part of the gate.
 set -euo pipefail
 cd "$(dirname "$0")/.."
-for name in blake3_speed cauchy_native sfc_native; do bench/native-lib "$name" >/dev/null; done
+for name in blake3_native cauchy_native sfc_native; do bench/native-lib "$name" >/dev/null; done
 mkdir -p target/bench
 rustc --edition 2021 -C opt-level=3 -L native=target/native -l static=sfc_native -l static=cauchy_native \
-  -l static=blake3_speed -o target/bench/writer bench/writer/main.rs
+  -l static=blake3_native -o target/bench/writer bench/writer/main.rs
 target/bench/writer

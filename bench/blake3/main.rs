@@ -81,25 +81,25 @@ mod plain {
         m
     }
 
-    fn piece(bytes: &[u8], number: u64, root: u32) -> [u32; 8] {
+    fn piece(bytes: &[u8], index: u64, root: u32) -> [u32; 8] {
         let mut cv = START;
         let mut at = 0;
         let mut first = 1;
         while bytes.len() - at > 64 {
-            cv = compress(&cv, &words(&bytes[at..at + 64]), number, 64, first);
+            cv = compress(&cv, &words(&bytes[at..at + 64]), index, 64, first);
             at += 64;
             first = 0;
         }
-        compress(&cv, &words(&bytes[at..]), number, (bytes.len() - at) as u32, first | 2 | root)
+        compress(&cv, &words(&bytes[at..]), index, (bytes.len() - at) as u32, first | 2 | root)
     }
 
-    fn tree(bytes: &[u8], number: u64, root: u32) -> [u32; 8] {
+    fn tree(bytes: &[u8], index: u64, root: u32) -> [u32; 8] {
         if bytes.len() <= 1024 {
-            return piece(bytes, number, root);
+            return piece(bytes, index, root);
         }
         let pieces = 1usize << ((bytes.len() - 1) / 1024).ilog2();
-        let l = tree(&bytes[..pieces * 1024], number, 0);
-        let r = tree(&bytes[pieces * 1024..], number + pieces as u64, 0);
+        let l = tree(&bytes[..pieces * 1024], index, 0);
+        let r = tree(&bytes[pieces * 1024..], index + pieces as u64, 0);
         let m = [l[0], l[1], l[2], l[3], l[4], l[5], l[6], l[7], r[0], r[1], r[2], r[3], r[4], r[5], r[6], r[7]];
         compress(&START, &m, 0, 64, 4 | root)
     }

@@ -12,16 +12,16 @@ use Rattle.little.specs.Fields.{le, bytesOf, fits, putLe}
 use Rattle.blake3.specs.Compress.{at, mixed, columns, diagonals, round, reordered, rounds, compressed, wordsFrom, bytesOfWords, startValue}
 use Rattle.blake3.specs.Tree.{blockWords, parent, startFlag}
 
--- a number of j + k bits turned right by k
-turn : (x j k : ℕ) → x < 2 ^ (j + k) → bitOr (x / 2 ^ k) ((x * 2 ^ j) % 2 ^ (k + j)) ≡ x % 2 ^ k * 2 ^ j + x / 2 ^ k
-turn x j k h = rw (mod-pow-add (x * 2 ^ j) k j, shl-shr x j, mul-mod-left x (2 ^ j), add-zero (x % 2 ^ k * 2 ^ j)) (or-shifted-r (x % 2 ^ k) j (x / 2 ^ k) (shr-lt j k h))
+-- j + k bits rotated right by k
+rotate : (x j k : ℕ) → x < 2 ^ (j + k) → bitOr (x / 2 ^ k) ((x * 2 ^ j) % 2 ^ (k + j)) ≡ x % 2 ^ k * 2 ^ j + x / 2 ^ k
+rotate x j k h = rw (mod-pow-add (x * 2 ^ j) k j, shl-shr x j, mul-mod-left x (2 ^ j), add-zero (x % 2 ^ k * 2 ^ j)) (or-shifted-r (x % 2 ^ k) j (x / 2 ^ k) (shr-lt j k h))
 
-pub turn32 : (x k : ℕ) → x < 2 ^ 32 → k < 32 → bitOr (x / 2 ^ k) ((x * 2 ^ (32 - k)) % 2 ^ 32) ≡ x % 2 ^ k * 2 ^ (32 - k) + x / 2 ^ k
-turn32 x k h lt =
+pub rotate32 : (x k : ℕ) → x < 2 ^ 32 → k < 32 → bitOr (x / 2 ^ k) ((x * 2 ^ (32 - k)) % 2 ^ 32) ≡ x % 2 ^ k * 2 ^ (32 - k) + x / 2 ^ k
+rotate32 x k h lt =
     let e : k + (32 - k) ≡ 32 = omega arith in
     let e′ : (32 - k) + k ≡ 32 = omega arith in
     subst (λ (n : ℕ). bitOr (x / 2 ^ k) ((x * 2 ^ (32 - k)) % 2 ^ n) ≡ x % 2 ^ k * 2 ^ (32 - k) + x / 2 ^ k) e
-    (turn x (32 - k) k (subst (λ (n : ℕ). x < 2 ^ n) (sym e′) h))
+    (rotate x (32 - k) k (subst (λ (n : ℕ). x < 2 ^ n) (sym e′) h))
 
 pub columns-made : (v m p q r s : List ℕ)
     → p ≡ mixed (at v 0) (at v 4) (at v 8) (at v 12) (at m 0) (at m 1)
@@ -77,7 +77,7 @@ pub block-made : (b : List ℕ) (a0 a1 a2 a3 a4 a5 a6 a7 a8 a9 a10 a11 a12 a13 a
 unfolding wordsFrom
 block-made b a0 a1 a2 a3 a4 a5 a6 a7 a8 a9 a10 a11 a12 a13 a14 a15 e0 e1 e2 e3 e4 e5 e6 e7 e8 e9 e10 e11 e12 e13 e14 e15 = rw (e0, e1, e2, e3, e4, e5, e6, e7, e8, e9, e10, e11, e12, e13, e14, e15)
 
--- the eight words stored one behind the other
+-- the eight words stored one after the other
 pub bytes-made : (w0 w1 w2 w3 w4 w5 w6 w7 : ℕ) (o0 o1 o2 o3 o4 o5 o6 o7 : List ℕ)
     → o0 ≡ putLe (replicate 32 0) 0 4 w0 → o1 ≡ putLe o0 4 4 w1 → o2 ≡ putLe o1 8 4 w2 → o3 ≡ putLe o2 12 4 w3 → o4 ≡ putLe o3 16 4 w4 → o5 ≡ putLe o4 20 4 w5 → o6 ≡ putLe o5 24 4 w6 → o7 ≡ putLe o6 28 4 w7
     → o7 ≡ bytesOfWords (w0 ∷ w1 ∷ w2 ∷ w3 ∷ w4 ∷ w5 ∷ w6 ∷ w7 ∷ [])

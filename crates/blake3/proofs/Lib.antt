@@ -1,8 +1,13 @@
--- The laws that the proofs of the crate's functions cite, and the proofs of the theorems stated in specs/.
-pub mod CompressLaws
-pub mod Splits
-pub mod StackLaws
+-- The laws that the proofs of the crate's functions cite, and the proofs of the theorems stated in specs/. Public are the two
+-- files that crates above cite.
+mod CompressLaws
+mod Splits
+mod StackLaws
 pub mod RunningLaws
-pub mod Heights
+mod FeedLaws
+mod Heights
+mod Waiting
+mod Holding
 pub mod AnyCut
-pub mod Refusals
+mod TwoParts
+mod Refusals

@@ -1,4 +1,4 @@
--- Laws of the tree: what the number of pieces on the left is, how deep a tree needs to be, and a piece from its blocks.
+-- Laws of the tree: how many pieces go to the left, how deep a tree needs to be, and a piece from its blocks.
 -- Assumes nothing.
 use mathlib.Core.Path.{_≡_, refl, sym, ap, _∙_}
 use mathlib.Core.Bool.{Bool, true, false}

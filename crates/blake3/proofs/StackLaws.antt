@@ -1,5 +1,5 @@
--- Laws of the running hash's stack, which the proofs of its functions cite: eight words of a list, a turn of each loop, a
--- part put in its place. Assumes nothing.
+-- Laws of the running hash's stack, which the proofs of its functions cite: eight words of a list, a turn of each loop, and when
+-- bytes are too many. Assumes nothing.
 use mathlib.Core.Path.{_≡_, refl, sym, ap, _∙_}
 use mathlib.Core.Bool.{true}
 use Prim.Native.Nat.{ℕ, zero, suc, _+_, _-_, _*_, _/_, _%_, _^_, _<_, _≤_}
@@ -8,14 +8,13 @@ use native.Mathlib.Nat.{add-zero}
 use native.Mathlib.Numerals.{add-one}
 use borrow.Author.Tests.{eq-eqb, ne-eqb, lt-ltb, le-ltb, ltb-true, ltb-false}
 use lib.Dec.{ltb}
-use lib.ListN.{set, length, take, drop, drop-of-length-le, length-drop}
-use lib.Seq.{drop-cons, drop-drop, sets-eq, take-length, length-take-le}
-use mathlib.Core.List.{List, [], _∷_, _++_, append-assoc, append-nil}
+use lib.ListN.{set, length, take, drop}
+use lib.Seq.{drop-cons, drop-drop, sets-eq}
+use mathlib.Core.List.{List, [], _∷_, _++_, append-assoc}
 use Rattle.little.specs.Parts.{put}
-use Rattle.little.proofs.PartLaws.{lent}
 use Rattle.blake3.specs.Compress.{at}
 use Rattle.blake3.specs.Tree.{parent}
-use Rattle.blake3.specs.Running.{slot, pushed, rootFlag, joinedAt, closed}
+use Rattle.blake3.specs.Stack.{slot, pushed, rootFlag, joinedAt, closed}
 use Rattle.blake3.proofs.Splits.{pow-suc, either}
 
 -- n elements of a list, from index j + k on
@@ -52,18 +51,6 @@ slot-written j l a b c d e f g h le =
     let vs = a ∷ b ∷ c ∷ d ∷ e ∷ f ∷ g ∷ h ∷ [] in
     rw (e₁, e₂, e₃, e₄, e₅, e₆, e₇)
     (sets-eq vs l j le ∙ append-assoc (take j l) vs (drop (j + 8) l) ∙ ap (λ (r : List ℕ). take j l ++ (vs ++ r)) (sym (drop-drop 8 j l)))
-
--- a part copied over as many bytes, from a place on
-pub place-made : (at : ℕ) (xs p ys : List ℕ) → at + length p ≤ length xs
-    → ys ≡ take (length p) p ++ drop (length p) (take (at + length p - at) (drop at xs))
-    → take at xs ++ (ys ++ drop (at + length p - at) (drop at xs)) ≡ put xs at p
-place-made at xs p ys le ey =
-    let e : at + length p - at ≡ length p = omega arith in
-    let u : length p ≤ length (drop at xs) = omega (arith, length-drop at xs) in
-    let v : length (take (length p) (drop at xs)) ≤ length p = omega (arith, length-take-le (length p) (drop at xs) u) in
-    let ey′ : ys ≡ p = (rw e at ey) ∙ ap (λ (q : List ℕ). q ++ drop (length p) (take (length p) (drop at xs))) (take-length p)
-    ∙ ap (λ (q : List ℕ). p ++ q) (drop-of-length-le (take (length p) (drop at xs)) v) ∙ append-nil p in
-    rw (e, ey′) (lent xs p at (length p) refl)
 
 -- ---- the loop that pushes
 

@@ -1,5 +1,5 @@
--- BLAKE3's compression on lists of numbers (document 01, "BLAKE3, unkeyed"): a word is a number below 2 ^ 32, a state has
--- sixteen words, a chaining value eight. Assumes nothing: these are definitions.
+-- BLAKE3's compression on lists (document 01, "BLAKE3, unkeyed"): a word is below 2 ^ 32, a state has sixteen words, a
+-- chaining value eight. Assumes nothing: these are definitions.
 use Prim.Native.Nat.{ℕ, zero, suc, _+_, _-_, _*_, _/_, _%_, _^_}
 use mathlib.Core.List.{List, [], _∷_, _++_}
 use lib.Bits.{bitXor}
@@ -14,21 +14,21 @@ at xs i = getD xs i 0
 abbrev pub sum32 : ℕ → ℕ → ℕ
 sum32 x y = (x + y) % 2 ^ 32
 
--- a word turned right by k bits
-unfoldable pub turned : ℕ → ℕ → ℕ
-turned x k = x % 2 ^ k * 2 ^ (32 - k) + x / 2 ^ k
+-- a word rotated right by k bits
+unfoldable pub rotated : ℕ → ℕ → ℕ
+rotated x k = x % 2 ^ k * 2 ^ (32 - k) + x / 2 ^ k
 
 -- the mixing step: four words of the state with two of the message
 unfoldable pub mixed : ℕ → ℕ → ℕ → ℕ → ℕ → ℕ → List ℕ
 mixed a b c d x y =
     let a₁ = sum32 (sum32 a b) x in
-    let d₁ = turned (bitXor d a₁) 16 in
+    let d₁ = rotated (bitXor d a₁) 16 in
     let c₁ = sum32 c d₁ in
-    let b₁ = turned (bitXor b c₁) 12 in
+    let b₁ = rotated (bitXor b c₁) 12 in
     let a₂ = sum32 (sum32 a₁ b₁) y in
-    let d₂ = turned (bitXor d₁ a₂) 8 in
+    let d₂ = rotated (bitXor d₁ a₂) 8 in
     let c₂ = sum32 c₁ d₂ in
-    let b₂ = turned (bitXor b₁ c₂) 7 in
+    let b₂ = rotated (bitXor b₁ c₂) 7 in
     a₂ ∷ b₂ ∷ c₂ ∷ d₂ ∷ []
 
 -- the four columns of the state v, taken as four rows of four, each mixed with two of the eight words m

@@ -2,4 +2,5 @@
 pub mod Types
 pub mod Compress
 pub mod Tree
+pub mod Stack
 pub mod Running

@@ -1,4 +1,5 @@
--- What the code's structs stand for, as lists. Assumes nothing: these are definitions.
+-- What the structs inside the code stand for, as lists; a customer may skip it, for no public call names one of them. Assumes
+-- nothing: these are definitions.
 use Prim.Native.Nat.{ℕ}
 use mathlib.Core.List.{List, [], _∷_}
 use Rattle.blake3.specs.declared.words.Four.{Four}

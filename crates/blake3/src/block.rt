@@ -6,8 +6,11 @@ ghost use Prim.Native.Nat.{_+_, _<_, _≤_};
 ghost use lib.ListN.{length};
 ghost use Rattle.little.specs.Fields.{le};
 ghost use Rattle.blake3.specs.Compress.{bytesOfWords};
-ghost use Rattle.blake3.specs.Tree.{blockWords};
+ghost use Rattle.blake3.specs.Tree.{blockLength, blockWords};
 ghost use Rattle.blake3.specs.Types.{eight, sixteen};
+
+// The bytes of a whole block.
+pub const BLOCK_LENGTH: usize = 64;
 
 // A byte as a word, with its bound.
 fn wide(x: u8) -> u32
@@ -16,7 +19,7 @@ fn wide(x: u8) -> u32
     x as u32
 }
 
-// The word at j, which lies inside: the compiler makes one load of it.
+// The four bytes from j on as a word, the lowest first. They lie inside, so that the compiler makes one load of them.
 fn word(b: &[u8], j: usize) -> u32
     requires { ⌜ j + 4 ≤ length (now b) ⌝ }
     ensures { λ r. ⌜ r ≡ le (now (b .entry)) j 4 ⌝ }
@@ -24,9 +27,9 @@ fn word(b: &[u8], j: usize) -> u32
     wide(b[j]) + wide(b[j + 1]) * 256 + wide(b[j + 2]) * 65536 + wide(b[j + 3]) * 16777216
 }
 
-// A block of 64 bytes.
+// The words of a whole block.
 fn whole_block(b: &[u8]) -> Sixteen
-    requires { ⌜ length (now b) ≡ 64 ⌝ }
+    requires { ⌜ length (now b) ≡ blockLength ⌝ }
     ensures { λ r. ⌜ sixteen r ≡ blockWords (now (b .entry)) ⌝ }
 {
     Sixteen {
@@ -49,7 +52,7 @@ fn whole_block(b: &[u8]) -> Sixteen
     }
 }
 
-// A block of any length, with zeros past its end.
+// The words of a block of any length, with zeros past its end.
 fn padded_block(b: &[u8]) -> Sixteen
     ensures { λ r. ⌜ sixteen r ≡ blockWords (now (b .entry)) ⌝ }
 {
@@ -77,7 +80,7 @@ fn padded_block(b: &[u8]) -> Sixteen
 pub fn block(b: &[u8]) -> Sixteen
     ensures { λ r. ⌜ sixteen r ≡ blockWords (now (b .entry)) ⌝ }
 {
-    if b.len() == 64 {
+    if b.len() == BLOCK_LENGTH {
         return whole_block(b);
     }
     padded_block(b)

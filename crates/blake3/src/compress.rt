@@ -7,6 +7,21 @@ ghost use mathlib.Core.List.{[], _∷_};
 ghost use Rattle.blake3.specs.Compress as spec;
 ghost use Rattle.blake3.specs.Types.{eight, sixteen};
 
+// The eight words that everything starts from; the third row of every state is their first half.
+const START_VALUE: Eight = Eight {
+    w0: 0x6A09E667,
+    w1: 0xBB67AE85,
+    w2: 0x3C6EF372,
+    w3: 0xA54FF53A,
+    w4: 0x510E527F,
+    w5: 0x9B05688C,
+    w6: 0x1F83D9AB,
+    w7: 0x5BE0CD19,
+};
+
+// How many values a word has: the counter is cut here into its low and its high word.
+const WORDS: u64 = 1 << 32;
+
 // The four columns of a state, each mixed with two of eight words of the message.
 pub fn columns(
     v: Sixteen,
@@ -45,7 +60,7 @@ pub fn columns(
     }
 }
 
-// The same for the four diagonals.
+// The four diagonals of a state, likewise.
 pub fn diagonals(
     v: Sixteen,
     m0: u32,
@@ -83,8 +98,8 @@ pub fn diagonals(
     }
 }
 
-// The message's order between two rounds is written out as places, so that no word is moved. Fourteen calls of a half
-// round are put in place by the compiler; of seven calls of a whole one it makes calls.
+// Seven rounds. Each one takes the message's words in a new order, which is written out here, so that no word is moved. A round
+// is written as its two halves, for the compiler inlines those and would call a whole round.
 fn rounds(v: Sixteen, m: Sixteen) -> Sixteen
     ensures { λ r. ⌜ sixteen r ≡ spec.rounds 7 (sixteen v) (sixteen m) ⌝ }
 {
@@ -124,8 +139,8 @@ fn fold(v: Sixteen) -> Eight
 pub fn compress(cv: Eight, m: Sixteen, i: u64, n: u32, flags: u32) -> Eight
     ensures { λ r. ⌜ eight r ≡ spec.compressed (eight cv) (sixteen m) i n flags ⌝ }
 {
-    let low = (i % 4294967296) as u32;
-    let high = (i / 4294967296) as u32;
+    let low = (i % WORDS) as u32;
+    let high = (i / WORDS) as u32;
     let v = Sixteen {
         w0: cv.w0,
         w1: cv.w1,
@@ -135,10 +150,10 @@ pub fn compress(cv: Eight, m: Sixteen, i: u64, n: u32, flags: u32) -> Eight
         w5: cv.w5,
         w6: cv.w6,
         w7: cv.w7,
-        w8: 0x6A09E667,
-        w9: 0xBB67AE85,
-        w10: 0x3C6EF372,
-        w11: 0xA54FF53A,
+        w8: START_VALUE.w0,
+        w9: START_VALUE.w1,
+        w10: START_VALUE.w2,
+        w11: START_VALUE.w3,
         w12: low,
         w13: high,
         w14: n,
@@ -151,14 +166,5 @@ pub fn compress(cv: Eight, m: Sixteen, i: u64, n: u32, flags: u32) -> Eight
 pub fn start_value() -> Eight
     ensures { λ r. ⌜ eight r ≡ spec.startValue ⌝ }
 {
-    Eight {
-        w0: 0x6A09E667,
-        w1: 0xBB67AE85,
-        w2: 0x3C6EF372,
-        w3: 0xA54FF53A,
-        w4: 0x510E527F,
-        w5: 0x9B05688C,
-        w6: 0x1F83D9AB,
-        w7: 0x5BE0CD19,
-    }
+    START_VALUE
 }

@@ -1,8 +1,10 @@
 // The running hash by value: a record that is fed part by part, and that ends with the hash of everything fed.
 use crate::block::bytes_of;
+use crate::stack::STACK_WORDS;
 use crate::stack::close;
 use crate::stack::push;
 use crate::stack::root_flag;
+use crate::tree::PIECE_LENGTH;
 use crate::tree::piece;
 use crate::words::Eight;
 ghost use mathlib.Core.Path.{_≡_};
@@ -11,10 +13,15 @@ ghost use lib.Dec.{ltb};
 ghost use lib.ListN.{length};
 ghost use Rattle.little.specs.Parts.{put};
 ghost use Rattle.blake3.specs.Running as spec;
+ghost use Rattle.blake3.specs.Stack as stackSpec;
+ghost use Rattle.blake3.specs.Tree.{pieceLength};
 ghost use Rattle.blake3.specs.Types.{eight};
 
 // The most bytes that may be fed.
-const MOST_FED: u64 = 1099511627776;
+const MOST_FED: u64 = 1 << 40;
+
+// The bytes of a whole piece, as the count of bytes fed is divided by them.
+const PIECE: u64 = PIECE_LENGTH as u64;
 
 // Why a record or a part is refused; specs/Running.antt has document 01's number.
 pub enum Reason {
@@ -28,14 +35,14 @@ pub enum Answer {
 }
 
 // The piece that is being filled, how many bytes have been fed, and the trees that wait for their right neighbour. The count
-// decides how much of the piece and which places of the stack mean something.
+// says how many bytes of the piece and which heights of the stack are in use.
 pub struct Running {
-    pub piece: [u8; 1024],
+    pub piece: [u8; PIECE_LENGTH],
     pub fed: u64,
-    pub stack: [u32; 240],
+    pub stack: [u32; STACK_WORDS],
 }
 
-// An enum holds no array, so the answer stands beside the record.
+// What a feed gives: the answer, and the record beside it, since no enum can hold an array.
 pub struct Fed {
     pub answer: Answer,
     pub state: Running,
@@ -49,25 +56,18 @@ pub struct Finished {
 
 // Puts a full piece into the stack, so that the next byte finds room.
 fn settle(bytes: &[u8], fed: u64, stack: &mut [u32])
-    requires { ⌜ (fed < spec.mostFed) × (length (now stack) ≡ 240) ⌝ }
-    ensures { λ _. ⌜ now (stack .exit) ≡ spec.settled fed (now (bytes .entry)) (now (stack .entry)) ⌝ }
+    requires { ⌜ (fed < spec.mostFed) × (length (now stack) ≡ stackSpec.stackWords) ⌝ }
+    ensures { λ _. ⌜ now (stack .exit) ≡ stackSpec.settled fed (now (bytes .entry)) (now (stack .entry)) ⌝ }
 {
-    if (fed != 0) & (fed % 1024 == 0) {
-        let t = fed / 1024 - 1;
+    if (fed != 0) & (fed % PIECE == 0) {
+        let t = fed / PIECE - 1;
         let cv = piece(bytes, t, 0);
         push(stack, t, cv);
     }
 }
 
-// A number that neither exceeds, and that is 0 only if one of them is.
-fn least(a: usize, b: usize) -> usize
-    ensures { λ r. ⌜ (r ≤ a) × (r ≤ b) × (0 < a → 0 < b → 0 < r) ⌝ }
-{
-    if a < b { a } else { b }
-}
-
-// Copies a part over the bytes from a place on.
-fn place(bytes: &mut [u8], at: usize, part: &[u8])
+// Copies a part over as many bytes, from a place on.
+fn put_part(bytes: &mut [u8], at: usize, part: &[u8])
     requires { ⌜ at + length (now part) ≤ length (now bytes) ⌝ }
     ensures { λ _. ⌜ now (bytes .exit) ≡ put (now (bytes .entry)) at (now (part .entry)) ⌝ }
 {
@@ -75,7 +75,7 @@ fn place(bytes: &mut [u8], at: usize, part: &[u8])
     bytes::copy(part, &mut bytes[at..end]);
 }
 
-// More bytes in all than may be fed.
+// Whether the bytes fed so far and more of them are more than may be fed.
 pub(crate) fn too_many(fed: u64, more: usize) -> bool
     ensures { λ r. ⌜ r ≡ ltb spec.mostFed (fed + more) ⌝ }
 {
@@ -95,20 +95,20 @@ pub(crate) fn refused_finish() -> Finished
     }
 }
 
-// How many pieces are in the stack: all but the last, which may be full.
+// How many pieces have gone into the stack: all but the last, which stays out even when it is full.
 fn pieces_done(fed: u64) -> u64
-    ensures { λ r. ⌜ r ≡ spec.piecesDone fed ⌝ }
+    ensures { λ r. ⌜ r ≡ stackSpec.piecesDone fed ⌝ }
 {
-    if fed == 0 { 0 } else { (fed - 1) / 1024 }
+    if fed == 0 { 0 } else { (fed - 1) / PIECE }
 }
 
-// What everything ends with: the last piece, and all that waits on its left.
+// The eight words of the root: the last piece, joined to all that waits on its left.
 fn ending(bytes: &[u8], fed: u64, stack: &[u32]) -> Eight
-    requires { ⌜ (length (now bytes) ≡ 1024) × (length (now stack) ≡ 240) ⌝ }
-    ensures { λ r. ⌜ eight r ≡ spec.ending fed (now (bytes .entry)) (now (stack .entry)) ⌝ }
+    requires { ⌜ (length (now bytes) ≡ pieceLength) × (length (now stack) ≡ stackSpec.stackWords) ⌝ }
+    ensures { λ r. ⌜ eight r ≡ stackSpec.ending fed (now (bytes .entry)) (now (stack .entry)) ⌝ }
 {
     let t = pieces_done(fed);
-    let have = (fed - t * 1024) as usize;
+    let have = (fed - t * PIECE) as usize;
     let cv = piece(&bytes[..have], t, root_flag(t));
     close(stack, t, cv)
 }
@@ -118,8 +118,8 @@ impl Running {
     pub fn new() -> Running
         ensures { λ r. ⌜ r ≡ spec.fresh ⌝ }
     {
-        let piece = [0u8; 1024];
-        let stack = [0u32; 240];
+        let piece = [0u8; PIECE_LENGTH];
+        let stack = [0u32; STACK_WORDS];
         Running {
             piece,
             fed: 0,
@@ -127,7 +127,7 @@ impl Running {
         }
     }
 
-    // The record with a part more; as much of the part as there is room for goes into the piece at each turn.
+    // The record after one more part: each pass of the loop puts into the piece as much of the part as there is room for.
     fn with_part(self, part: &[u8]) -> Running
         requires { ⌜ self .fed + length (now part) ≤ spec.mostFed ⌝ }
         ensures { λ r. ⌜ r ≡ spec.withBytes self (now (part .entry)) ⌝ }
@@ -138,9 +138,9 @@ impl Running {
         let mut at: usize = 0;
         while 0 < part.len() - at {
             settle(&piece, fed, &mut stack);
-            let used = (fed % 1024) as usize;
-            let n = least(1024 - used, part.len() - at);
-            place(&mut piece, used, &part[at..at + n]);
+            let used = (fed % PIECE) as usize;
+            let n = little::least(PIECE_LENGTH - used, part.len() - at);
+            put_part(&mut piece, used, &part[at..at + n]);
             fed += n as u64;
             at += n;
         }

@@ -3,18 +3,27 @@ use crate::tree::ROOT;
 use crate::tree::parent;
 use crate::words::Eight;
 ghost use mathlib.Core.Path.{_≡_};
-ghost use Prim.Native.Nat.{_*_, _<_, _≤_};
+ghost use Prim.Native.Nat.{_+_, _*_, _^_, _<_, _≤_};
 ghost use lib.ListN.{length};
 ghost use Rattle.little.specs.Parts.{put};
-ghost use Rattle.blake3.specs.Running as spec;
+ghost use Rattle.blake3.specs.Stack as spec;
 ghost use Rattle.blake3.specs.Types.{eight};
+
+// The heights of the stack: 2 ^ 30 pieces are as many bytes as may be fed.
+const HEIGHTS: usize = 30;
+
+// The words of a chaining value.
+const VALUE_WORDS: usize = 8;
+
+// The words of the stack.
+pub const STACK_WORDS: usize = HEIGHTS * VALUE_WORDS;
 
 // The chaining value at height h.
 fn load(stack: &[u32], h: usize) -> Eight
-    requires { ⌜ (h < 30) × (length (now stack) ≡ 240) ⌝ }
+    requires { ⌜ (h < spec.heights) × (length (now stack) ≡ spec.stackWords) ⌝ }
     ensures { λ r. ⌜ eight r ≡ spec.slot h (now (stack .entry)) ⌝ }
 {
-    let j = h * 8;
+    let j = h * VALUE_WORDS;
     Eight {
         w0: stack[j],
         w1: stack[j + 1],
@@ -29,10 +38,10 @@ fn load(stack: &[u32], h: usize) -> Eight
 
 // Puts a chaining value at height h.
 fn store(stack: &mut [u32], h: usize, cv: Eight)
-    requires { ⌜ (h < 30) × (length (now stack) ≡ 240) ⌝ }
+    requires { ⌜ (h < spec.heights) × (length (now stack) ≡ spec.stackWords) ⌝ }
     ensures { λ _. ⌜ now (stack .exit) ≡ put (now (stack .entry)) (h * 8) (eight cv) ⌝ }
 {
-    let j = h * 8;
+    let j = h * VALUE_WORDS;
     stack[j] = cv.w0;
     stack[j + 1] = cv.w1;
     stack[j + 2] = cv.w2;
@@ -45,8 +54,8 @@ fn store(stack: &mut [u32], h: usize, cv: Eight)
 
 // Adds piece t, whose chaining value is cv: two trees of one height make one of the next.
 pub fn push(stack: &mut [u32], t: u64, cv: Eight)
-    requires { ⌜ (t < 1073741823) × (length (now stack) ≡ 240) ⌝ }
-    ensures { λ _. ⌜ now (stack .exit) ≡ spec.pushed 30 0 t (eight cv) (now (stack .entry)) ⌝ }
+    requires { ⌜ (t + 1 < 2 ^ spec.heights) × (length (now stack) ≡ spec.stackWords) ⌝ }
+    ensures { λ _. ⌜ now (stack .exit) ≡ spec.pushed spec.heights 0 t (eight cv) (now (stack .entry)) ⌝ }
 {
     let mut tree = cv;
     let mut before = t;
@@ -60,7 +69,7 @@ pub fn push(stack: &mut [u32], t: u64, cv: Eight)
     store(stack, h, tree);
 }
 
-// The flag root for what has nothing on its left.
+// The flag ROOT for what has nothing on its left, and none for the rest.
 pub fn root_flag(t: u64) -> u32
     ensures { λ r. ⌜ (r ≡ spec.rootFlag t) × (r ≤ 8) ⌝ }
 {
@@ -69,7 +78,7 @@ pub fn root_flag(t: u64) -> u32
 
 // cv with the tree at height h on its left, where one waits there.
 fn join_at(stack: &[u32], h: usize, t: u64, cv: Eight) -> Eight
-    requires { ⌜ (h < 30) × (length (now stack) ≡ 240) ⌝ }
+    requires { ⌜ (h < spec.heights) × (length (now stack) ≡ spec.stackWords) ⌝ }
     ensures { λ r. ⌜ eight r ≡ spec.joinedAt h t (eight cv) (now (stack .entry)) ⌝ }
 {
     if t % 2 == 0 {
@@ -78,15 +87,15 @@ fn join_at(stack: &[u32], h: usize, t: u64, cv: Eight) -> Eight
     parent(load(stack, h), cv, root_flag(t / 2))
 }
 
-// Joins what waits to cv, which the text ends with, from the lowest height up.
+// Joins the trees that wait, from the lowest height up, each on the left of what the text ends with: cv at first.
 pub fn close(stack: &[u32], t: u64, cv: Eight) -> Eight
-    requires { ⌜ length (now stack) ≡ 240 ⌝ }
-    ensures { λ r. ⌜ eight r ≡ spec.closed 30 0 t (eight cv) (now (stack .entry)) ⌝ }
+    requires { ⌜ length (now stack) ≡ spec.stackWords ⌝ }
+    ensures { λ r. ⌜ eight r ≡ spec.closed spec.heights 0 t (eight cv) (now (stack .entry)) ⌝ }
 {
     let mut tree = cv;
     let mut before = t;
     let mut h: usize = 0;
-    while h < 30 {
+    while h < HEIGHTS {
         let next = join_at(stack, h, before, tree);
         tree = next;
         before = before / 2;

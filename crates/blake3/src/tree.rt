@@ -1,4 +1,5 @@
-// The tree over a text: a piece of up to 1,024 bytes, two parts joined, and the recursion on the parts of the slice.
+// The tree over a text: a piece, two parts joined, and the recursion on the parts of the slice.
+use crate::block::BLOCK_LENGTH;
 use crate::block::block;
 use crate::compress::compress;
 use crate::compress::start_value;
@@ -10,22 +11,32 @@ ghost use lib.ListN.{length};
 ghost use Rattle.blake3.specs.Tree as spec;
 ghost use Rattle.blake3.specs.Types.{eight};
 
+// The bytes of a whole piece.
+pub const PIECE_LENGTH: usize = 1024;
+
+// The length that the compression of a whole block is told.
+const WHOLE_BLOCK: u32 = BLOCK_LENGTH as u32;
+
+// The flag for the first block of a piece.
 const START: u32 = 1;
 
+// The flag for the last block of a piece.
 const END: u32 = 2;
 
+// The flag for two subtrees joined.
 const PARENT: u32 = 4;
 
+// The flag for the last compression, which gives the hash.
 pub const ROOT: u32 = 8;
 
-// The flag start, for the first block of a piece.
+// The flag START for the first block of a piece, and none for the others.
 fn start_flag(k: usize) -> u32
     ensures { λ r. ⌜ (r ≡ spec.startFlag k) × (r ≤ 1) ⌝ }
 {
     if k == 0 { START } else { 0 }
 }
 
-// Piece i of a text: every block but the last in the loop, the last one with its length and its flags after it.
+// Piece i of a text: the loop takes every block but the last, which goes in with its own length and flags.
 pub fn piece(s: &[u8], i: u64, root: u32) -> Eight
     requires { ⌜ root ≤ 8 ⌝ }
     ensures { λ r. ⌜ eight r ≡ spec.piece i root (now (s .entry)) ⌝ }
@@ -33,11 +44,17 @@ pub fn piece(s: &[u8], i: u64, root: u32) -> Eight
     let mut cv = start_value();
     let mut k: usize = 0;
     let mut at: usize = 0;
-    while 64 < s.len() - at {
-        let next = compress(cv, block(&s[at..at + 64]), i, 64, start_flag(k));
+    while BLOCK_LENGTH < s.len() - at {
+        let next = compress(
+            cv,
+            block(&s[at..at + BLOCK_LENGTH]),
+            i,
+            WHOLE_BLOCK,
+            start_flag(k),
+        );
         cv = next;
         k += 1;
-        at += 64;
+        at += BLOCK_LENGTH;
     }
     let n = (s.len() - at) as u32;
     compress(cv, block(&s[at..]), i, n, start_flag(k) + END + root)
@@ -66,15 +83,15 @@ pub fn parent(l: Eight, r: Eight, root: u32) -> Eight
         w14: r.w6,
         w15: r.w7,
     };
-    compress(start_value(), m, 0, 64, PARENT + root)
+    compress(start_value(), m, 0, WHOLE_BLOCK, PARENT + root)
 }
 
-// How many pieces of n bytes go to the left: doubled as long as twice as many leave a byte.
+// How many pieces of a text of n bytes go to the left: doubled for as long as twice as many leave a byte on the right.
 fn left_pieces(n: usize) -> usize
-    requires { ⌜ 1024 < n ⌝ }
+    requires { ⌜ spec.pieceLength < n ⌝ }
     ensures { λ r. ⌜ r ≡ spec.leftPieces n ⌝ }
 {
-    let most = (n - 1) / 1024;
+    let most = (n - 1) / PIECE_LENGTH;
     let mut p: usize = 1;
     while 2 * p <= most {
         p = 2 * p;
@@ -82,16 +99,16 @@ fn left_pieces(n: usize) -> usize
     p
 }
 
-// The tree of a text or of a part of one, whose first piece has the number i.
+// The tree of a text or of a part of one, whose first piece is piece i of the whole text.
 pub fn tree(s: &[u8], i: u64, root: u32) -> Eight
-    requires { ⌜ (i * 1024 + length (now s) < 2 ^ 64) × (root ≤ 8) ⌝ }
+    requires { ⌜ (i * spec.pieceLength + length (now s) < 2 ^ 64) × (root ≤ 8) ⌝ }
     ensures { λ r. ⌜ eight r ≡ spec.treeOf i root (now (s .entry)) ⌝ }
 {
-    if s.len() <= 1024 {
+    if s.len() <= PIECE_LENGTH {
         return piece(s, i, root);
     }
     let pieces = left_pieces(s.len());
-    let half = pieces * 1024;
+    let half = pieces * PIECE_LENGTH;
     let l = tree(&s[..half], i, 0);
     let r = tree(&s[half..], i + (pieces as u64), 0);
     parent(l, r, root)

@@ -4,6 +4,9 @@ ghost use Prim.Native.Nat.{_<_};
 ghost use Rattle.blake3.specs.Compress as spec;
 ghost use Rattle.blake3.specs.Types.{four};
 
+// The bits of a word.
+const WORD_BITS: u32 = 32;
+
 // What the mixing step gives.
 pub struct Four {
     pub a: u32,
@@ -12,7 +15,7 @@ pub struct Four {
     pub d: u32,
 }
 
-// A chaining value. Fields and no array: a field costs its proofs nothing, an array a fact for each index.
+// A chaining value. It has fields and is no array, for every index into an array asks for a proof that it lies inside.
 pub struct Eight {
     pub w0: u32,
     pub w1: u32,
@@ -44,12 +47,12 @@ pub struct Sixteen {
     pub w15: u32,
 }
 
-// A word turned right by k bits.
-fn turn(x: u32, k: u32) -> u32
+// A word rotated right by k bits.
+fn rotate(x: u32, k: u32) -> u32
     requires { ⌜ (0 < k) × (k < 32) ⌝ }
-    ensures { λ r. ⌜ r ≡ spec.turned x k ⌝ }
+    ensures { λ r. ⌜ r ≡ spec.rotated x k ⌝ }
 {
-    (x >> k) | (x << (32 - k))
+    (x >> k) | (x << (WORD_BITS - k))
 }
 
 // The sum of two words, without its carry.
@@ -64,13 +67,13 @@ pub fn mix(a: u32, b: u32, c: u32, d: u32, x: u32, y: u32) -> Four
     ensures { λ r. ⌜ four r ≡ spec.mixed a b c d x y ⌝ }
 {
     let a1 = sum(sum(a, b), x);
-    let d1 = turn(d ^ a1, 16);
+    let d1 = rotate(d ^ a1, 16);
     let c1 = sum(c, d1);
-    let b1 = turn(b ^ c1, 12);
+    let b1 = rotate(b ^ c1, 12);
     let a2 = sum(sum(a1, b1), y);
-    let d2 = turn(d1 ^ a2, 8);
+    let d2 = rotate(d1 ^ a2, 8);
     let c2 = sum(c1, d2);
-    let b2 = turn(b1 ^ c2, 7);
+    let b2 = rotate(b1 ^ c2, 7);
     Four {
         a: a2,
         b: b2,

@@ -1,6 +1,6 @@
 // Prints the hashes of the bytes i mod 251 at the published lengths, at once (`LENGTH HEX`) and fed part by part
 // (`LENGTH CUT HEX`): first by value in parts of CUT bytes, then in place in two parts.
-ghost use Prim.Native.Nat.{_<_, _≤_};
+ghost use Prim.Native.Nat.{_<_};
 
 fn wide(x: u8) -> u64 {
     x as u64
@@ -15,7 +15,7 @@ fn print_hash(hash: [u8; 32]) {
     io::write_all(1, b"\n");
 }
 
-fn print_number(n: usize) {
+fn print_length(n: usize) {
     io::print_decimal(1, n as u64);
     io::write_all(1, b" ");
 }
@@ -50,22 +50,16 @@ fn by_value(text: &[u8], cut: usize) -> [u8; 32]
     end.hash
 }
 
-fn least(a: usize, b: usize) -> usize
-    ensures { λ r. ⌜ r ≤ b ⌝ }
-{
-    if a < b { a } else { b }
-}
-
 // The hash of a text, through a record that is fed in place: `cut` bytes first, then the rest.
 fn in_place(text: &[u8], cut: usize) -> [u8; 32] {
-    let at = least(cut, text.len());
+    let at = little::within8(cut, text);
     let end = blake3::hash_two_in_place(&text[..at], &text[at..]);
     end.hash
 }
 
 fn at_once(text: &[u8], n: usize) {
     if n <= text.len() {
-        print_number(n);
+        print_length(n);
         print_hash(blake3::hash(&text[..n]));
     }
 }
@@ -74,11 +68,11 @@ fn in_parts(text: &[u8], n: usize, cut: usize)
     requires { ⌜ 0 < cut ⌝ }
 {
     if n <= text.len() {
-        print_number(n);
-        print_number(cut);
+        print_length(n);
+        print_length(cut);
         print_hash(by_value(&text[..n], cut));
-        print_number(n);
-        print_number(cut);
+        print_length(n);
+        print_length(cut);
         print_hash(in_place(&text[..n], cut));
     }
 }

@@ -1,5 +1,5 @@
 -- `blake3::in_place::hash_two_in_place` meets its contract. Assumes nothing.
-use Rattle.blake3.proofs.AnyCut.{two-refused, two-done}
+use Rattle.blake3.proofs.TwoParts.{two-refused, two-done}
 use borrow.Author.Needs.{needs}
 use Rattle.blake3.proofs.in_place.hash_two_in_place.Statement.{statement}
 use Rattle.blake3.proofs.in_place.hash_two_in_place.Tie as tie

@@ -4,7 +4,7 @@ use mathlib.Core.Path.{sym}
 use Prim.Native.Nat.{_-_, _*_, _≤_}
 use lib.ListN.{length}
 use lib.Seq.{length-take-le}
-use Rattle.blake3.proofs.RunningLaws.{ending-made}
+use Rattle.blake3.proofs.FeedLaws.{ending-made}
 use borrow.Author.Needs.{needs}
 use Rattle.blake3.proofs.running.ending.Statement.{statement}
 use Rattle.blake3.proofs.running.ending.Tie as tie

@@ -1,6 +1,6 @@
 -- `blake3::running::settle` meets its contract. Assumes nothing.
 use native.Mathlib.Omega.{arith}
-use Rattle.blake3.proofs.RunningLaws.{full-told, settled-full, settled-not}
+use Rattle.blake3.proofs.FeedLaws.{full-told, settled-full, settled-not}
 use borrow.Author.Needs.{needs}
 use Rattle.blake3.proofs.running.settle.Statement.{statement}
 use Rattle.blake3.proofs.running.settle.Tie as tie

@@ -4,7 +4,7 @@ use native.Mathlib.Omega.{arith}
 use mathlib.Core.Path.{_≡_, refl, _∙_}
 use Prim.Native.Nat.{_-_, _<_, _≤_}
 use Rattle.blake3.proofs.StackLaws.{close-more, close-end}
-use Rattle.blake3.specs.Running.{closed}
+use Rattle.blake3.specs.Stack.{closed}
 use borrow.Author.Needs.{needs}
 use Rattle.blake3.proofs.stack.close.Statement.{statement}
 use Rattle.blake3.proofs.stack.close.Tie as tie

@@ -1,7 +1,7 @@
 -- `blake3::stack::load` meets its contract. Assumes nothing.
 use native.Mathlib.Omega.{arith}
 use Rattle.blake3.proofs.StackLaws.{slot-read}
-use Rattle.blake3.specs.Running.{slot}
+use Rattle.blake3.specs.Stack.{slot}
 use Prim.Native.Nat.{_*_}
 use borrow.Author.Needs.{needs}
 use Rattle.blake3.proofs.stack.load.Statement.{statement}

@@ -4,7 +4,7 @@ use native.Mathlib.Omega.{arith}
 use mathlib.Core.Path.{_≡_, refl, _∙_}
 use Prim.Native.Nat.{_+_, _-_, _^_, _<_}
 use Rattle.blake3.proofs.StackLaws.{push-more, push-end, room-above}
-use Rattle.blake3.specs.Running.{pushed}
+use Rattle.blake3.specs.Stack.{pushed}
 use borrow.Author.Needs.{needs}
 use Rattle.blake3.proofs.stack.push.Statement.{statement}
 use Rattle.blake3.proofs.stack.push.Tie as tie

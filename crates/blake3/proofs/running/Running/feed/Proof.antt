@@ -2,7 +2,7 @@
 use lib.ListN.{length}
 use Prim.Native.Nat.{_+_}
 use Rattle.blake3.specs.Running.{mostFed}
-use Rattle.blake3.proofs.RunningLaws.{feed-refused, feed-done, room-told}
+use Rattle.blake3.proofs.FeedLaws.{feed-refused, feed-done, room-told}
 use borrow.Author.Needs.{needs}
 use Rattle.blake3.proofs.running.Running.feed.Statement.{statement}
 use Rattle.blake3.proofs.running.Running.feed.Tie as tie

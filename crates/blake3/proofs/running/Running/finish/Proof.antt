@@ -1,5 +1,5 @@
 -- `blake3::running::Running::finish` meets its contract. Assumes nothing.
-use Rattle.blake3.proofs.RunningLaws.{finish-refused, finish-done}
+use Rattle.blake3.proofs.FeedLaws.{finish-refused, finish-done}
 use borrow.Author.Needs.{needs}
 use Rattle.blake3.proofs.running.Running.finish.Statement.{statement}
 use Rattle.blake3.proofs.running.Running.finish.Tie as tie

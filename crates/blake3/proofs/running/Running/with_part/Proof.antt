@@ -3,7 +3,7 @@ use native.Mathlib.Omega.{arith}
 use mathlib.Core.Path.{_≡_, refl, _∙_}
 use Prim.Native.Nat.{_+_, _-_, _≤_}
 use lib.ListN.{length, drop}
-use Rattle.blake3.proofs.RunningLaws.{state, fed-turn, fed-end}
+use Rattle.blake3.proofs.FeedLaws.{state, some-room, fed-more, fed-end}
 use Rattle.blake3.specs.Running.{withBytes}
 use borrow.Author.Needs.{needs}
 use Rattle.blake3.proofs.running.Running.with_part.Statement.{statement}
@@ -19,10 +19,10 @@ loop-holds : tie.Need-loop-holds Inv-loop μ-loop
 loop-holds c = (search needs, search needs, omega arith, omega arith, refl)
 
 loop-less : tie.Need-loop-less Inv-loop μ-loop
-loop-less c = let pos = c .before .before .before .before .least .ensures .2 (omega arith) (omega arith) in omega arith
+loop-less c = let pos = some-room _ _ (c .before .before .before .before .least .ensures .0) (omega arith) (omega arith) in omega arith
 
 loop-again : tie.Need-loop-again Inv-loop μ-loop
-loop-again c = let a = c .before .before .before .before .before .before .before .before .before .before .before .before .before .before .args in let l = c .before .before .before .before .before .before .before .before .before .before .loop in let n = c .before .before .before .before .least .result in let pos = c .before .before .before .before .least .ensures .2 (omega arith) (omega arith) in (c .before .place .kept .0 ∙ l .inv .0, c .before .before .before .before .before .before .settle .kept .1 .1 .0 ∙ l .inv .1, omega arith, omega arith, fed-turn (l .piece) (l .stack) (a .part .now) (l .fed) (l .at) n (withBytes (a .self) (a .part .now)) (l .inv .0) pos (omega arith) (omega arith) (c .before .before .before .before .before .before .settle .ensures) (c .before .place .ensures) (l .inv .4))
+loop-again c = let a = c .before .before .before .before .before .before .before .before .before .before .before .before .before .before .args in let l = c .before .before .before .before .before .before .before .before .before .before .loop in let n = c .before .before .before .before .least .result in let pos = some-room _ _ (c .before .before .before .before .least .ensures .0) (omega arith) (omega arith) in (c .before .put-part .kept .0 ∙ l .inv .0, c .before .before .before .before .before .before .settle .kept .1 .1 .0 ∙ l .inv .1, omega arith, omega arith, fed-more (l .piece) (l .stack) (a .part .now) (l .fed) (l .at) n (withBytes (a .self) (a .part .now)) (l .inv .0) pos (omega arith) (omega arith) (c .before .before .before .before .before .before .settle .ensures) (c .before .put-part .ensures) (l .inv .4))
 
 returns : tie.Need-returns Inv-loop μ-loop
 returns c = let a = c .before .before .before .before .before .args in let l = c .before .loop in fed-end (l .piece) (l .stack) (a .part .now) (l .fed) (l .at) (withBytes (a .self) (a .part .now)) (omega arith) (l .inv .4)

@@ -1,4 +1,4 @@
--- `blake3_speed::embercymbal_blake3` meets its contract. Assumes nothing.
+-- `blake3_native::embercymbal_blake3` meets its contract. Assumes nothing.
 use mathlib.Core.Path.{_≡_, ap, _∙_}
 use native.Mathlib.Omega.{arith}
 use Prim.Native.Nat.{ℕ, _≤_}
@@ -7,10 +7,10 @@ use mathlib.Core.List.{List, _++_, append-nil}
 use lib.Seq.{take-length}
 use borrow.Author.Tests.{eq-eqb, ne-eqb}
 use Rattle.blake3.specs.Tree.{hash}
-use Rattle.blake3_speed.specs.Into.{hashInto}
+use Rattle.blake3_native.specs.Into.{hashInto}
 use borrow.Author.Needs.{needs}
-use Rattle.blake3_speed.proofs.embercymbal_blake3.Statement.{statement}
-use Rattle.blake3_speed.proofs.embercymbal_blake3.Tie as tie
+use Rattle.blake3_native.proofs.embercymbal_blake3.Statement.{statement}
+use Rattle.blake3_native.proofs.embercymbal_blake3.Tie as tie
 
 -- a copy that fills the memory
 filled : (h out exit text : List ℕ) → length h ≡ 32 → length out ≡ 32 → h ≡ hash text → exit ≡ take (length h) h ++ drop (length h) out → exit ≡ hashInto text out

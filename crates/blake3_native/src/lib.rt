@@ -1,6 +1,6 @@
-// The hash for callers from C or Rust, by which bench/blake3.sh measures its speed.
+// The hash under a C name, for programs in other languages and for measuring (bench/blake3.sh).
 ghost use mathlib.Core.Path.{_≡_};
-ghost use Rattle.blake3_speed.specs.Into.{hashInto};
+ghost use Rattle.blake3_native.specs.Into.{hashInto};
 
 // Puts the hash of a text into 32 bytes, and leaves a memory of another length as it is.
 #[no_mangle]
