@@ -9,7 +9,7 @@ use lib.Dec.{eqb}
 use lib.Bits.{bitXor}
 use Rattle.little.specs.Parts.{block}
 use Rattle.cauchy.specs.Code.{wordOf, wordBytes, joined, fieldSum, share}
-use Rattle.cauchy.specs.System.{field, solve}
+use Rattle.cauchy.specs.inner.System.{field, solve}
 
 -- 1 for each held index, 0 for each other
 unfoldable pub held : List ℕ → List ℕ

@@ -1,5 +1,5 @@
 -- `rebuild_words` meets its contract. Assumes nothing.
-use Rattle.cauchy.proofs.EndLaws.{length-zeros, fine, enough, solvable, rows-are, rebuilt}
+use Rattle.cauchy.proofs.columns.EndLaws.{length-zeros, fine, enough, solvable, rows-are, rebuilt}
 use mathlib.Core.Path.{refl, sym, _∙_}
 use Prim.Native.Nat.{_≤_}
 use native.Mathlib.Omega.{arith}

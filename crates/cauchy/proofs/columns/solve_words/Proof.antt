@@ -2,7 +2,7 @@
 use mathlib.Core.Path.{refl, _∙_, ap}
 use Prim.Native.Nat.{ℕ}
 use lib.ListN.{length, replicate}
-use Rattle.cauchy.proofs.RebuildLaws.{room-for}
+use Rattle.cauchy.proofs.sums.RangeLaws.{room-for}
 use borrow.Author.Needs.{needs}
 use Rattle.cauchy.proofs.columns.solve_words.Statement.{statement}
 use Rattle.cauchy.proofs.columns.solve_words.Tie as tie

@@ -7,8 +7,8 @@ use lib.ListN.{length}
 use borrow.Author.Needs.{needs}
 use Rattle.cauchy.specs.Code.{wordBytes}
 use Rattle.little.proofs.PartLaws.{block-inside}
-use Rattle.cauchy.proofs.ShapeLaws.{few}
-use Rattle.cauchy.proofs.CodeLaws.{length-part, firstShares, sum-start, sum-turn, sum-end, length-out}
+use Rattle.cauchy.proofs.shape.ShapeLaws.{few}
+use Rattle.cauchy.proofs.blocks.CodeLaws.{length-part, firstShares, sum-start, sum-turn, sum-end, length-out}
 use Rattle.cauchy.proofs.encode.sum_blocks.Statement.{statement}
 use Rattle.cauchy.proofs.encode.sum_blocks.Tie as tie
 

@@ -6,7 +6,7 @@ use lib.ListN.{set}
 use borrow.Author.Needs.{needs}
 use Rattle.cauchy.proofs.inverse.set_unit.Statement.{statement}
 use Rattle.cauchy.proofs.inverse.set_unit.Tie as tie
-use Rattle.cauchy.specs.Inner.{unit}
+use Rattle.cauchy.specs.inner.Promises.{unit}
 
 returns : tie.Need-returns
 unfolding unit

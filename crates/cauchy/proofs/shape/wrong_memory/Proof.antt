@@ -4,7 +4,7 @@ use mathlib.Core.Bool.{not, _||_}
 use Prim.Native.Nat.{ℕ, _+_, _*_, _/_}
 use native.Mathlib.Omega.{arith}
 use lib.Dec.{ltb, eqb}
-use Rattle.cauchy.proofs.ShapeLaws.{right, few}
+use Rattle.cauchy.proofs.shape.ShapeLaws.{right, few}
 use borrow.Author.Needs.{needs}
 use Rattle.cauchy.proofs.shape.wrong_memory.Statement.{statement}
 use Rattle.cauchy.proofs.shape.wrong_memory.Tie as tie

@@ -6,9 +6,9 @@ use borrow.Author.Needs.{needs}
 use lib.ListN.{length}
 use Rattle.cauchy.proofs.solver.pass_backward.Statement.{statement}
 use Rattle.cauchy.proofs.solver.pass_backward.Tie as tie
-use Rattle.cauchy.specs.Inner.{Below}
-use Rattle.cauchy.proofs.Passes.{Backward, backward-start, backward-next, backward-end, ready-after}
-use Rattle.cauchy.specs.System.{field}
+use Rattle.cauchy.specs.inner.Promises.{Below}
+use Rattle.cauchy.proofs.solver.Passes.{Backward, backward-start, backward-next, backward-end, ready-after}
+use Rattle.cauchy.specs.inner.System.{field}
 
 abbrev Inv-loop : tie.InvT-loop
 Inv-loop xs ys a₀ t₀ a t = Backward field xs ys a₀ t a × Below 65536 a × (t ≤ length xs)

@@ -7,9 +7,9 @@ use borrow.Author.Needs.{needs}
 use lib.ListN.{length}
 use Rattle.cauchy.proofs.solver.pass_forward.Statement.{statement}
 use Rattle.cauchy.proofs.solver.pass_forward.Tie as tie
-use Rattle.cauchy.specs.Inner.{Below}
-use Rattle.cauchy.proofs.Passes.{Forward, forward-start, forward-next, forward-end, ready-after}
-use Rattle.cauchy.specs.System.{field}
+use Rattle.cauchy.specs.inner.Promises.{Below}
+use Rattle.cauchy.proofs.solver.Passes.{Forward, forward-start, forward-next, forward-end, ready-after}
+use Rattle.cauchy.specs.inner.System.{field}
 
 abbrev Inv-loop : tie.InvT-loop
 Inv-loop xs ys a₀ t₀ a t = Forward field xs ys a₀ t a × Below 65536 a × (t ≤ length xs)

@@ -5,7 +5,7 @@ use borrow.Author.Needs.{needs}
 use lib.ListN.{length}
 use Rattle.cauchy.proofs.solver.round.Statement.{statement}
 use Rattle.cauchy.proofs.solver.round.Tie as tie
-use Rattle.cauchy.proofs.Passes.{RoundTo, round-start, round-turn, round-end}
+use Rattle.cauchy.proofs.solver.Passes.{RoundTo, round-start, round-turn, round-end}
 
 abbrev Inv-loop : tie.InvT-loop
 Inv-loop xs ys a₀ t k₀ a k = RoundTo 65536 xs ys t k a₀ a

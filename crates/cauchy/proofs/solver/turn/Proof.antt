@@ -5,7 +5,7 @@ use lib.ListN.{length-set}
 use borrow.Author.Needs.{needs}
 use Rattle.cauchy.proofs.solver.turn.Statement.{statement}
 use Rattle.cauchy.proofs.solver.turn.Tie as tie
-use Rattle.cauchy.proofs.Passes.{TurnTo, turn-start, turn-down, turn-last, set-below}
+use Rattle.cauchy.proofs.solver.Passes.{TurnTo, turn-start, turn-down, turn-last, set-below}
 
 abbrev Inv-loop : tie.InvT-loop
 Inv-loop xs ys a₀ t k₀ acc₀ a k acc = TurnTo 65536 xs ys t k a₀ a acc

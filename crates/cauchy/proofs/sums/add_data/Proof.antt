@@ -1,11 +1,11 @@
 -- `add_data` meets its contract. Assumes nothing.
-use Rattle.cauchy.proofs.RebuildLaws.{part-in, part-long, room-for, length-entries}
+use Rattle.cauchy.proofs.sums.RangeLaws.{part-in, part-long, room-for, length-entries}
 use mathlib.Core.Path.{_≡_, refl, _∙_, ap}
 use Prim.Native.Nat.{_+_, _-_, _*_, _≤_}
 use native.Mathlib.Nat.{add-sub-cancel-left}
 use native.Mathlib.Omega.{arith}
 use lib.ListN.{length}
-use Rattle.cauchy.proofs.SumLaws.{Coming, coming-start, coming-held, coming-other, coming-end}
+use Rattle.cauchy.proofs.sums.SumLaws.{Coming, coming-start, coming-held, coming-other, coming-end}
 use borrow.Author.Needs.{needs}
 use Rattle.cauchy.proofs.sums.add_data.Statement.{statement}
 use Rattle.cauchy.proofs.sums.add_data.Tie as tie

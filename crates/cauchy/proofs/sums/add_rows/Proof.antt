@@ -1,16 +1,16 @@
 -- `add_rows` meets its contract. Assumes nothing.
-use Rattle.cauchy.proofs.RebuildLaws.{part-in, part-long, room-for}
-use Rattle.cauchy.proofs.Linear.{length-unit}
+use Rattle.cauchy.proofs.sums.RangeLaws.{part-in, part-long, room-for}
+use Rattle.cauchy.proofs.algebra.Linear.{length-unit}
 use mathlib.Core.Path.{_≡_, refl, _∙_, ap}
 use Prim.Native.Nat.{ℕ, _+_, _-_, _*_, _≤_}
 use native.Mathlib.Nat.{add-sub-cancel-left}
 use native.Mathlib.Omega.{arith}
 use lib.ListN.{length, getD}
-use Rattle.cauchy.proofs.SumLaws.{Rowing, rowing-start, rowing-turn, rowing-end}
+use Rattle.cauchy.proofs.sums.SumLaws.{Rowing, rowing-start, rowing-turn, rowing-end}
 use borrow.Author.Needs.{needs}
 use Rattle.cauchy.proofs.sums.add_rows.Statement.{statement}
 use Rattle.cauchy.proofs.sums.add_rows.Tie as tie
-use Rattle.cauchy.specs.Inner.{unit}
+use Rattle.cauchy.specs.inner.Promises.{unit}
 
 abbrev Inv-loop : tie.InvT-loop
 Inv-loop n m s first count xs numbers store v₀ scratch₀ i₀ v scratch i = (i ≤ length xs) × (length scratch ≡ length scratch₀) × (length v ≡ length xs) × Rowing n s first count xs numbers store scratch₀ scratch i

@@ -1,11 +1,11 @@
 -- `clear_all` meets its contract. Assumes nothing.
-use Rattle.cauchy.proofs.RebuildLaws.{range-in, range-small, cleared-start, cleared-turn}
+use Rattle.cauchy.proofs.sums.RangeLaws.{range-in, range-small, cleared-start, cleared-turn}
 use mathlib.Core.Path.{_≡_, refl, _∙_, ap}
 use Prim.Native.Nat.{_+_, _-_, _*_, _≤_}
 use native.Mathlib.Nat.{add-sub-cancel-left}
 use native.Mathlib.Omega.{arith}
 use lib.ListN.{length}
-use Rattle.cauchy.proofs.Filled.{length-filled}
+use Rattle.cauchy.proofs.blocks.Filled.{length-filled}
 use borrow.Author.Needs.{needs}
 use Rattle.cauchy.proofs.sums.clear_all.Statement.{statement}
 use Rattle.cauchy.proofs.sums.clear_all.Tie as tie

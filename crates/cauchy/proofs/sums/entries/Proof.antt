@@ -7,7 +7,7 @@ use lib.ListN.{length, getD, length-set}
 use lib.Seq.{getD-set-same, getD-set-other, ext-getD}
 use lib.Bits.{bitXor}
 use Rattle.gf16.specs.Field.{inv}
-use Rattle.cauchy.proofs.RebuildLaws.{getD-entries, length-entries}
+use Rattle.cauchy.proofs.sums.RangeLaws.{getD-entries, length-entries}
 use borrow.Author.Needs.{needs}
 use Rattle.cauchy.proofs.sums.entries.Statement.{statement}
 use Rattle.cauchy.proofs.sums.entries.Tie as tie

@@ -3,7 +3,7 @@ use mathlib.Core.Path.{_≡_, refl}
 use Prim.Native.Nat.{_-_, _*_, _/_, _≤_}
 use native.Mathlib.Omega.{arith}
 use lib.ListN.{length, length-set}
-use Rattle.cauchy.proofs.MixLaws.{mixed, mixed-start, mixed-turn, mixed-end}
+use Rattle.cauchy.proofs.words.MixLaws.{mixed, mixed-start, mixed-turn, mixed-end}
 use borrow.Author.Needs.{needs}
 use Rattle.cauchy.proofs.words.clear.Statement.{statement}
 use Rattle.cauchy.proofs.words.clear.Tie as tie

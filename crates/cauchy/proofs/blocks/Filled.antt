@@ -15,9 +15,9 @@ use Rattle.little.specs.Fields.{bytesOf}
 use Rattle.little.specs.Parts.{put}
 use Rattle.little.proofs.PartLaws.{lent, length-part, getD-part, length-put, put-before, put-inside, put-behind, block-inside}
 use Rattle.cauchy.specs.Code.{joined, wordBytes}
-use Rattle.cauchy.proofs.BlockLaws.{length-wordBytes}
+use Rattle.cauchy.proofs.blocks.BlockLaws.{length-wordBytes}
 use Rattle.cauchy.specs.Calls.{byteOf, inRange, filled}
-use Rattle.cauchy.proofs.Store.{length-build, getD-build}
+use Rattle.cauchy.proofs.blocks.Store.{length-build, getD-build}
 
 byte-from : (f : ℕ → ℕ) (c n r : ℕ) → r < 2 * n → getD (wordBytes f c n) r 0 ≡ byteOf (r % 2) (f (c + r / 2))
 unfolding joined bytesOf byteOf

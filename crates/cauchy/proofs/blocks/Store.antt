@@ -8,13 +8,13 @@ use native.Mathlib.Omega.{arith}
 use lib.Arith.{digits-div, digits-mod}
 use lib.ListN.{length, getD}
 use lib.Seq.{ext-getD}
-use Rattle.cauchy.proofs.WordCode.{NatOps, WordLaws, codeWord, Agree, FitAt}
+use Rattle.cauchy.proofs.algebra.WordCode.{NatOps, WordLaws, codeWord, Agree, FitAt}
 use Rattle.cauchy.specs.Decode.{count}
-use Rattle.cauchy.specs.Inner.{Below}
-use Rattle.cauchy.proofs.WordCode
+use Rattle.cauchy.specs.inner.Promises.{Below}
+use Rattle.cauchy.proofs.algebra.WordCode
 use Rattle.cauchy.specs.Code.{wordAt}
 use Rattle.cauchy.specs.Calls.{build}
-use Rattle.cauchy.proofs.WordBytes.{byte-any, word-is, word-lt}
+use Rattle.cauchy.proofs.blocks.WordBytes.{byte-any, word-is, word-lt}
 
 -- word w of the blocks i, i + 1, … : n of them
 unfoldable pub columnFrom : ℕ → ℕ → ℕ → ℕ → List ℕ → List ℕ

@@ -12,12 +12,12 @@ use borrow.Author.Tests.{eq-eqb, ne-eqb}
 use Rattle.little.specs.Parts.{block}
 use Rattle.gf16.specs.Field.{mul, inv}
 use Rattle.cauchy.specs.Code.{wordAt, wordOf, wordBytes, share, Held}
-use Rattle.cauchy.specs.System.{field, solve}
+use Rattle.cauchy.specs.inner.System.{field, solve}
 use Rattle.cauchy.specs.Decode.{held, missing, rowsUsed, heldSum, side, sides, foundWords, rank, decode}
 use Rattle.cauchy.specs.Theorems.{Blind}
-use Rattle.cauchy.proofs.BlockLaws.{wordBytes-ext, word-block}
-use Rattle.cauchy.proofs.CodeLaws.{sum-ext}
-use Rattle.cauchy.proofs.Known.{UsedRows, rows-used}
+use Rattle.cauchy.proofs.blocks.BlockLaws.{wordBytes-ext, word-block}
+use Rattle.cauchy.proofs.blocks.CodeLaws.{sum-ext}
+use Rattle.cauchy.proofs.decoding.Known.{UsedRows, rows-used}
 
 module _ (n m s : ℕ) (marks store other : List ℕ) (even : s % 2 ≡ 0) (agree : (i : ℕ) → i < n + m → Held marks i → block s store i ≡ block s other i) where
   -- a word of a held block

@@ -12,11 +12,11 @@ use Rattle.little.specs.Parts.{block}
 use Rattle.cauchy.specs.Code.{joined, wordBytes, wordOf}
 use Rattle.cauchy.specs.Decode.{held, count, missing, present, holding, missingData, rowsUsed, side, sides, foundWords, rank, decode, decoded, firstHeld, usedMarks}
 use Rattle.cauchy.specs.Theorems.{Shape, Used, UsedOne}
-use Rattle.cauchy.proofs.Store.{column}
-use Rattle.cauchy.proofs.BlockLaws.{joined-ext}
-use Rattle.cauchy.proofs.Known.{length-held, held-take, held-drop, count-split, length-missing, length-present, heldRow, held-sum, known, some}
-use Rattle.cauchy.proofs.Decoded.{in-blocks}
-use Rattle.cauchy.proofs.EndLaws.{Enough, enough}
+use Rattle.cauchy.proofs.blocks.Store.{column}
+use Rattle.cauchy.proofs.blocks.BlockLaws.{joined-ext}
+use Rattle.cauchy.proofs.decoding.Known.{length-held, held-take, held-drop, count-split, length-missing, length-present, heldRow, held-sum, known, some}
+use Rattle.cauchy.proofs.decoding.Decoded.{in-blocks}
+use Rattle.cauchy.proofs.columns.EndLaws.{Enough, enough}
 
 -- ---- the first held marks
 

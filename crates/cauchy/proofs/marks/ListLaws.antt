@@ -10,7 +10,7 @@ use mathlib.Core.Bool.{Bool, cond}
 use lib.Dec.{eqb}
 use borrow.Author.Tests.{eq-eqb, ne-eqb}
 use lib.Seq.{drop-cons, drop-length, take-suc, take-suc-set, take-all, getD-take, getD-drop, length-take-le}
-use Rattle.cauchy.proofs.Known.{length-held, held-none, held-one, missing-at}
+use Rattle.cauchy.proofs.decoding.Known.{length-held, held-none, held-one, missing-at}
 use Rattle.cauchy.specs.Decode.{missing, count, held, present}
 
 -- one more of the list L is written

@@ -10,13 +10,13 @@ use lib.Seq.{length-take-le}
 use lib.Dec.{ltb, eqb}
 use borrow.Author.Tests.{ltb-false, eqb-true, not-false, lt-ltb, le-ltb}
 use Rattle.cauchy.specs.declared.Answer.{Answer}
-use Rattle.cauchy.proofs.Known.{length-held, held-take, held-drop, count-split, length-missing, length-present, UsedRows, rows-used}
+use Rattle.cauchy.proofs.decoding.Known.{length-held, held-take, held-drop, count-split, length-missing, length-present, UsedRows, rows-used}
 use Rattle.little.proofs.TestLaws.{or-false}
-use Rattle.cauchy.proofs.ShapeLaws.{Right, right}
-use Rattle.cauchy.proofs.WordCode.{ascending-distinct}
-use Rattle.cauchy.specs.Inner.{Apart, Distinct, Cross, Square, Room, Rows}
+use Rattle.cauchy.proofs.shape.ShapeLaws.{Right, right}
+use Rattle.cauchy.proofs.algebra.WordCode.{ascending-distinct}
+use Rattle.cauchy.specs.inner.Promises.{Apart, Distinct, Cross, Square, Room, Rows}
 use Rattle.cauchy.specs.Decode.{missing, count, held, holding, present, rowsUsed, sides, foundWords}
-use Rattle.cauchy.specs.System.{solve, field, zeros}
+use Rattle.cauchy.specs.inner.System.{solve, field, zeros}
 use Rattle.cauchy.specs.Calls.{wrongShape, filled, wrongMemory, rebuiltScratch, Rebuilt, rebuildSpec}
 
 apart-missing : (x c : ℕ) (ms : List ℕ) → x < c → Apart x (missing c ms)

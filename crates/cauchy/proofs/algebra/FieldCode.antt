@@ -6,11 +6,11 @@ use mathlib.Core.List.{List, [], _∷_}
 use Prim.Native.Nat.{zero, ℕ, suc, _+_, _≤_, _<_}
 use native.Mathlib.Omega.{arith}
 use lib.ListN.{length, getD}
-use Rattle.cauchy.proofs.Field.{O-add, O-mul, Field, assoc, add-O, twice, left-comm}
-use Rattle.cauchy.specs.System.{Ops, dot, solve}
-use Rattle.cauchy.specs.Inner.{Apart, Distinct, Cross, Nodes}
-use Rattle.cauchy.proofs.SystemLaws.{sums, length-solve, solve-correct, solve-unique}
-use Rattle.cauchy.proofs.Kept.{blank, trues, kept, lost, merge, length-kept, length-lost, merge-parts, Fit, length-merge, kept-merge, lost-merge}
+use Rattle.cauchy.proofs.algebra.Field.{O-add, O-mul, Field, assoc, add-O, twice, left-comm}
+use Rattle.cauchy.specs.inner.System.{Ops, dot, solve}
+use Rattle.cauchy.specs.inner.Promises.{Apart, Distinct, Cross, Nodes}
+use Rattle.cauchy.proofs.algebra.SystemLaws.{sums, length-solve, solve-correct, solve-unique}
+use Rattle.cauchy.proofs.algebra.Kept.{blank, trues, kept, lost, merge, length-kept, length-lost, merge-parts, Fit, length-merge, kept-merge, lost-merge}
 
 module _ (R : Ops) where
   open Ops R using (F, _⊕_, _⊗_, inv, O, I)

@@ -12,21 +12,21 @@ use lib.Bits.{bitXor, xor-zero-l}
 use borrow.Author.Tests.{lt-ltb, le-ltb, eq-eqb, ne-eqb}
 use Rattle.gf16.specs.Field.{mul, inv}
 use Rattle.gf16.proofs.Laws.{laws}
-use Rattle.cauchy.proofs.GfLaws.{gf-laws, gf}
-use Rattle.cauchy.proofs.BlockLaws.{below-wordBytes, words-same, length-block, word-block, below-block, block-of-words, word-code}
-use Rattle.cauchy.proofs.WordCode.{rowFrom, codeWord, code-data, code-row, Ascending}
+use Rattle.cauchy.proofs.algebra.GfLaws.{gf-laws, gf}
+use Rattle.cauchy.proofs.blocks.BlockLaws.{below-wordBytes, words-same, length-block, word-block, below-block, block-of-words, word-code}
+use Rattle.cauchy.proofs.algebra.WordCode.{rowFrom, codeWord, code-data, code-row, Ascending}
 use Rattle.cauchy.specs.Decode.{count, missing, held, holding, present, rowsUsed, heldSum, side, sides, foundWords, rank, decode}
-use Rattle.cauchy.specs.Inner.{Below}
+use Rattle.cauchy.specs.inner.Promises.{Below}
 use Rattle.little.specs.Fields.{Bytes}
 use Rattle.cauchy.specs.Code.{fieldSum, share, wordAt, wordBytes, recoveryWord, recoveryBlock, codeBlock, Blocks, Held, Fits}
-use Rattle.cauchy.proofs.Store.{column, columnFrom, length-column, getD-column, below-column, FitsStore, known-store-fits, some-store}
+use Rattle.cauchy.proofs.blocks.Store.{column, columnFrom, length-column, getD-column, below-column, FitsStore, known-store-fits, some-store}
 use Rattle.cauchy.specs.Theorems.{Shape, Known, One, Some, Free}
-use Rattle.cauchy.proofs.WordCode
+use Rattle.cauchy.proofs.algebra.WordCode
 use Rattle.little.specs.Parts.{block, putBlock}
 use Rattle.little.proofs.PartLaws
 use Rattle.little.proofs.FieldLaws.{bytes-put}
-use Rattle.cauchy.proofs.CodeLaws.{length-code}
-use Rattle.cauchy.proofs.WordBytes.{byte-any}
+use Rattle.cauchy.proofs.blocks.CodeLaws.{length-code}
+use Rattle.cauchy.proofs.blocks.WordBytes.{byte-any}
 
 -- ---- marks
 

@@ -13,11 +13,11 @@ use lib.Bits.{bitXor, xor-comm}
 use Rattle.gf16.specs.Field.{mul, inv}
 use Rattle.gf16.proofs.Laws.{laws}
 use Rattle.little.specs.Fields.{bytesOf}
-use Rattle.cauchy.proofs.WordBytes.{word-is, bytes-sum}
-use Rattle.cauchy.proofs.BlockLaws.{length-wordBytes, word-back, joined-ext, wordBytes-ext, word-block, length-block}
-use Rattle.cauchy.proofs.MixLaws.{mixed, mixed-word}
+use Rattle.cauchy.proofs.blocks.WordBytes.{word-is, bytes-sum}
+use Rattle.cauchy.proofs.blocks.BlockLaws.{length-wordBytes, word-back, joined-ext, wordBytes-ext, word-block, length-block}
+use Rattle.cauchy.proofs.words.MixLaws.{mixed, mixed-word}
 use Rattle.cauchy.specs.Code.{fieldSum, share, wordAt, wordBytes, recoveryWord, recoveryBlock, codeBlock}
-use Rattle.cauchy.specs.Inner.{mulAdded}
+use Rattle.cauchy.specs.inner.Promises.{mulAdded}
 use Rattle.little.specs.Parts.{part, block}
 use Rattle.little.proofs.PartLaws.{part-append-left, part-append-right, part-whole, block-inside}
 

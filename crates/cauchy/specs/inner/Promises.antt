@@ -8,7 +8,7 @@ use lib.ListN.{length, getD, drop, set, replicate}
 use lib.Bits.{bitXor}
 use Rattle.gf16.specs.Field.{mul, inv}
 use Rattle.cauchy.specs.Code.{wordAt, wordOf, wordBytes}
-use Rattle.cauchy.specs.System.{Ops, field, dot, zeros, reduce, back, extend, solve}
+use Rattle.cauchy.specs.inner.System.{Ops, field, dot, zeros, reduce, back, extend, solve}
 use Rattle.cauchy.specs.Decode.{sides}
 use Rattle.cauchy.specs.Calls.{filled}
 

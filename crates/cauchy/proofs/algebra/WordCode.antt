@@ -13,15 +13,15 @@ use native.Mathlib.Omega.{arith}
 use lib.ListN.{length, getD, take, drop, length-drop}
 use lib.Seq.{drop-cons, ext-getD, getD-take, getD-drop, length-take-le}
 use lib.Dec.{ltb, T, lt→ltb, ltb→lt}
-use Rattle.cauchy.specs.System.{Ops, dot, zeros, reduce, back, first, extend, solve}
+use Rattle.cauchy.specs.inner.System.{Ops, dot, zeros, reduce, back, first, extend, solve}
 use Rattle.cauchy.specs.Decode.{count, missing}
-use Rattle.cauchy.specs.Inner.{Below, Apart, Distinct, Cross, Nodes}
-use Rattle.cauchy.proofs.Field.{Laws, Field}
-use Rattle.cauchy.proofs.SystemLaws.{sums}
-use Rattle.cauchy.proofs.Kept.{length-kept, blank, blank-of, trues, kept, lost, kept-of-agree, agree-of-kept}
-use Rattle.cauchy.proofs.FieldCode.{Decoded, nodes-kept, length-sums, getD-sums, length-plus, getD-plus, plus, decode}
-use Rattle.cauchy.proofs.FieldCode
-use Rattle.cauchy.proofs.SystemLaws
+use Rattle.cauchy.specs.inner.Promises.{Below, Apart, Distinct, Cross, Nodes}
+use Rattle.cauchy.proofs.algebra.Field.{Laws, Field}
+use Rattle.cauchy.proofs.algebra.SystemLaws.{sums}
+use Rattle.cauchy.proofs.algebra.Kept.{length-kept, blank, blank-of, trues, kept, lost, kept-of-agree, agree-of-kept}
+use Rattle.cauchy.proofs.algebra.FieldCode.{Decoded, nodes-kept, length-sums, getD-sums, length-plus, getD-plus, plus, decode}
+use Rattle.cauchy.proofs.algebra.FieldCode
+use Rattle.cauchy.proofs.algebra.SystemLaws
 
 -- ---- operations and laws
 

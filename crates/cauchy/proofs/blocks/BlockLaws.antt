@@ -14,12 +14,12 @@ use Rattle.little.specs.Parts.{block}
 use Rattle.little.proofs.FieldLaws.{le-part}
 use Rattle.little.proofs.PartLaws
 use Rattle.cauchy.specs.Code.{wordAt, joined, wordBytes, fieldSum, share, recoveryWord, recoveryBlock, codeBlock, Blocks}
-use Rattle.cauchy.specs.Inner.{Below}
-use Rattle.cauchy.proofs.WordCode.{rowFrom, codeWord, code-data}
-use Rattle.cauchy.proofs.WordBytes.{two-back, word-lt}
-use Rattle.cauchy.proofs.RowLaws.{row-lt}
-use Rattle.cauchy.proofs.GfLaws.{gf, gf-laws}
-use Rattle.cauchy.proofs.Store.{column, columnFrom, same-columns, length-column, getD-column, below-column}
+use Rattle.cauchy.specs.inner.Promises.{Below}
+use Rattle.cauchy.proofs.algebra.WordCode.{rowFrom, codeWord, code-data}
+use Rattle.cauchy.proofs.blocks.WordBytes.{two-back, word-lt}
+use Rattle.cauchy.proofs.algebra.RowLaws.{row-lt}
+use Rattle.cauchy.proofs.algebra.GfLaws.{gf, gf-laws}
+use Rattle.cauchy.proofs.blocks.Store.{column, columnFrom, same-columns, length-column, getD-column, below-column}
 
 -- ---- words as bytes
 

@@ -10,12 +10,12 @@ use lib.Bits.{bitXor, xor-zero-r, xor-zero-l}
 use Rattle.gf16.specs.Field.{mul, inv}
 use Rattle.gf16.proofs.Ring.{shuffle}
 use Rattle.gf16.proofs.Laws.{laws}
-use Rattle.cauchy.proofs.GfLaws.{gf-laws, gf}
-use Rattle.cauchy.proofs.WordCode.{solve-correct, solve-unique, solve-below}
-use Rattle.cauchy.specs.Inner.{Below, Square, unit}
-use Rattle.cauchy.specs.System.{dot, solve, field}
-use Rattle.cauchy.proofs.SystemLaws.{sums, length-solve}
-use Rattle.cauchy.proofs.FieldCode.{plus, length-plus, getD-plus}
+use Rattle.cauchy.proofs.algebra.GfLaws.{gf-laws, gf}
+use Rattle.cauchy.proofs.algebra.WordCode.{solve-correct, solve-unique, solve-below}
+use Rattle.cauchy.specs.inner.Promises.{Below, Square, unit}
+use Rattle.cauchy.specs.inner.System.{dot, solve, field}
+use Rattle.cauchy.proofs.algebra.SystemLaws.{sums, length-solve}
+use Rattle.cauchy.proofs.algebra.FieldCode.{plus, length-plus, getD-plus}
 
 pub scaleBy : ℕ → List ℕ → List ℕ
 scaleBy c [] = []

@@ -5,9 +5,9 @@ use mathlib.Core.List.{List, [], _∷_}
 use Prim.Native.Nat.{ℕ, zero, suc, _≤_, _<_}
 use native.Mathlib.Omega.{arith}
 use lib.ListN.{length, getD}
-use Rattle.cauchy.specs.System.{Ops, dot, zeros, reduce, back, first, extend, solve}
-use Rattle.cauchy.specs.Inner.{Apart, Cross, Nodes, forward, backward}
-use Rattle.cauchy.proofs.Field.{Field, adds, muls, assoc, self, mulassoc, mulcomm, mul-I, dist, mul-inv, O-add, left-comm, add-ne, mul-left-comm}
+use Rattle.cauchy.specs.inner.System.{Ops, dot, zeros, reduce, back, first, extend, solve}
+use Rattle.cauchy.specs.inner.Promises.{Apart, Cross, Nodes, forward, backward}
+use Rattle.cauchy.proofs.algebra.Field.{Field, adds, muls, assoc, self, mulassoc, mulcomm, mul-I, dist, mul-inv, O-add, left-comm, add-ne, mul-left-comm}
 
 module _ {A : Type 0} where
   cross-tail : (xs ys : List A) (y : A) → Cross xs (y ∷ ys) → Cross xs ys

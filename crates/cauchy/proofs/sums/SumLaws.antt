@@ -8,19 +8,19 @@ use lib.Seq.{ext-getD, getD-take, getD-drop, drop-cons, length-take-le}
 use lib.Bits.{bitXor, xor-zero-l}
 use Rattle.gf16.specs.Field.{mul, inv}
 use Rattle.gf16.proofs.Laws.{laws, Field·simp}
-use Rattle.cauchy.proofs.GfLaws.{gf-laws, gf}
-use Rattle.cauchy.proofs.Known.{heldRow, held-sum, length-held, held-one, held-none}
-use Rattle.cauchy.proofs.Linear.{tailFrom, tailFrom-all, tail-step, tail-start, length-unit, below-unit, solve-step}
-use Rattle.cauchy.proofs.Filled.{filled-ext}
-use Rattle.cauchy.proofs.RebuildLaws.{getD-entries, length-entries}
-use Rattle.cauchy.proofs.WordCode.{solve-below}
-use Rattle.cauchy.specs.Inner.{Below, unit, entriesOf, Square, Inverse, stepped, recsOf, AddsAll, AddsRows, AddsData}
-use Rattle.cauchy.specs.System.{solve, field}
-use Rattle.cauchy.proofs.SystemLaws.{length-solve}
+use Rattle.cauchy.proofs.algebra.GfLaws.{gf-laws, gf}
+use Rattle.cauchy.proofs.decoding.Known.{heldRow, held-sum, length-held, held-one, held-none}
+use Rattle.cauchy.proofs.algebra.Linear.{tailFrom, tailFrom-all, tail-step, tail-start, length-unit, below-unit, solve-step}
+use Rattle.cauchy.proofs.blocks.Filled.{filled-ext}
+use Rattle.cauchy.proofs.sums.RangeLaws.{getD-entries, length-entries}
+use Rattle.cauchy.proofs.algebra.WordCode.{solve-below}
+use Rattle.cauchy.specs.inner.Promises.{Below, unit, entriesOf, Square, Inverse, stepped, recsOf, AddsAll, AddsRows, AddsData}
+use Rattle.cauchy.specs.inner.System.{solve, field}
+use Rattle.cauchy.proofs.algebra.SystemLaws.{length-solve}
 use Rattle.cauchy.specs.Code.{wordAt}
-use Rattle.cauchy.proofs.Store.{column, length-column, getD-column, below-column}
+use Rattle.cauchy.proofs.blocks.Store.{column, length-column, getD-column, below-column}
 use Rattle.little.proofs.FieldLaws.{le-part}
-use Rattle.cauchy.proofs.WordBytes.{word-lt}
+use Rattle.cauchy.proofs.blocks.WordBytes.{word-lt}
 use Rattle.cauchy.specs.Decode.{held, side, sides}
 use Rattle.cauchy.specs.Calls.{filled}
 

@@ -7,11 +7,11 @@ use native.Mathlib.Numerals.{add-one}
 use lib.ListN.{length, getD, take, drop, set, length-set, length-drop, drop-of-length-le}
 use lib.Seq.{drop-set-lt, getD-set-same, getD-set-other, take-suc, drop-cons, take-all, append-snoc, ext-getD, getD-take, getD-drop, length-take-le}
 use native.Mathlib.Decide.{ℕ-discrete}
-use Rattle.cauchy.specs.System.{Ops, field, dot, zeros, reduce, back, first, extend}
+use Rattle.cauchy.specs.inner.System.{Ops, field, dot, zeros, reduce, back, first, extend}
 use lib.Bits.{bitXor}
 use Rattle.gf16.specs.Field.{mul, inv}
-use Rattle.cauchy.specs.Inner.{Below, forward, backward, Round, Turn, Ready, reduceOne, scaleOne, termOne}
-use Rattle.cauchy.proofs.SystemLaws.{getD-reduce, getD-back, length-reduce, length-back}
+use Rattle.cauchy.specs.inner.Promises.{Below, forward, backward, Round, Turn, Ready, reduceOne, scaleOne, termOne}
+use Rattle.cauchy.proofs.algebra.SystemLaws.{getD-reduce, getD-back, length-reduce, length-back}
 
 module _ (R : Ops) where
   open Ops R using (F, _⊕_, _⊗_, inv, O, I)

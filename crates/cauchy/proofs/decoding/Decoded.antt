@@ -10,11 +10,11 @@ use lib.ListN.{length, getD, take, drop, replicate, length-drop, take-append-dro
 use lib.Seq.{getD-take, getD-drop, length-take-le, take-take, drop-drop, ext-getD}
 use lib.Dec.{ltb, leb}
 use borrow.Author.Tests.{ne-eqb, le-ltb, ltb-false}
-use Rattle.cauchy.proofs.BlockLaws.{joined-ext, wordBytes-ext, word-back}
-use Rattle.cauchy.proofs.Known.{length-held, held-take, held-one}
-use Rattle.cauchy.proofs.Filled.{read-filled, length-filled, getD-filled}
-use Rattle.cauchy.proofs.SumLaws.{word-part}
-use Rattle.cauchy.proofs.EndLaws.{Enough, enough, fine}
+use Rattle.cauchy.proofs.blocks.BlockLaws.{joined-ext, wordBytes-ext, word-back}
+use Rattle.cauchy.proofs.decoding.Known.{length-held, held-take, held-one}
+use Rattle.cauchy.proofs.blocks.Filled.{read-filled, length-filled, getD-filled}
+use Rattle.cauchy.proofs.sums.SumLaws.{word-part}
+use Rattle.cauchy.proofs.columns.EndLaws.{Enough, enough, fine}
 use Rattle.little.proofs.TestLaws.{or-false}
 use Rattle.cauchy.specs.declared.Answer.{Answer}
 use Rattle.cauchy.specs.Decode.{missing, missingData, held, holding, foundWords, rank, decode}

@@ -2,7 +2,7 @@
 -- products. Assumes nothing.
 use mathlib.Core.Path.{_≡_, sym, _∙_, ap, ap₂}
 use mathlib.Core.Logic.{_≢_}
-use Rattle.cauchy.specs.System.{Ops}
+use Rattle.cauchy.specs.inner.System.{Ops}
 
 module _ (R : Ops) where
   open Ops R using (F, _⊕_, _⊗_, inv, O, I)

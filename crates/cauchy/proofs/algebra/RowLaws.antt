@@ -3,8 +3,8 @@ use mathlib.Core.List.{List, [], _∷_}
 use Prim.Native.Nat.{ℕ, suc, _+_, _≤_, _<_, suc-le-suc}
 use native.Mathlib.Omega.{arith}
 use lib.ListN.{length}
-use Rattle.cauchy.proofs.WordCode.{NatOps, WordLaws, rowFrom}
-use Rattle.cauchy.specs.Inner.{Below}
+use Rattle.cauchy.proofs.algebra.WordCode.{NatOps, WordLaws, rowFrom}
+use Rattle.cauchy.specs.inner.Promises.{Below}
 
 below-tail : (b d : ℕ) (ds : List ℕ) → Below b (d ∷ ds) → Below b ds
 below-tail b d ds h i m = h (suc i) (suc-le-suc m)

@@ -13,7 +13,7 @@ use lib.Bits.{bitXor, xor-mod}
 use Rattle.little.specs.Fields.{Bytes, le, bytesOf}
 use Rattle.little.proofs.FieldLaws.{laws}
 use Rattle.cauchy.specs.Code.{wordAt}
-use Rattle.cauchy.specs.Inner.{Below}
+use Rattle.cauchy.specs.inner.Promises.{Below}
 
 -- bytes are bytes past the end too
 pub byte-any : (s : List ℕ) → Below 256 s → Bytes s

@@ -3,7 +3,7 @@ use lib.Bits.{bitXor}
 use lib.Dec.{lit<}
 use Rattle.gf16.specs.Field.{mul, inv}
 use Rattle.gf16.proofs.Laws.{laws}
-use Rattle.cauchy.proofs.WordCode.{NatOps, WordLaws}
+use Rattle.cauchy.proofs.algebra.WordCode.{NatOps, WordLaws}
 
 abbrev pub gf : NatOps
 gf = record { add = bitXor; mul = mul; inv = inv }

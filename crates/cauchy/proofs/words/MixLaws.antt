@@ -7,8 +7,8 @@ use lib.ListN.{length, getD, drop, set, drop-of-length-le, length-append}
 use lib.Seq.{drop-cons, append-snoc, set-at, getD-append-add, getD-drop}
 use Rattle.little.specs.Fields.{bytesOf}
 use Rattle.cauchy.specs.Code.{joined, wordAt, wordBytes}
-use Rattle.cauchy.proofs.WordBytes.{word-is}
-use Rattle.cauchy.proofs.BlockLaws.{length-wordBytes}
+use Rattle.cauchy.proofs.blocks.WordBytes.{word-is}
+use Rattle.cauchy.proofs.blocks.BlockLaws.{length-wordBytes}
 
 -- w words of f, then what was there
 abbrev pub mixed : (ℕ → ℕ) → ℕ → List ℕ → List ℕ
