@@ -1,5 +1,7 @@
 -- The shared facts about tests, parts of lists and fields, and the proofs of the statements in specs/.
 pub mod TestLaws
 pub mod PartLaws
+pub mod RunLaws
+pub mod ListLaws
 pub mod FieldLaws
 pub mod Promise

@@ -1,4 +1,21 @@
-// Little-endian fields of a slice at 16, 32 and 64 bits: total readers and writers over one definition of the width.
+// Little-endian fields of a slice at 16, 32 and 64 bits, total readers and writers over one definition of the width; and runs of
+// elements, which every floor above needs.
+mod runs;
+
+pub use runs::are_all8;
+pub use runs::are_all16;
+pub use runs::are_all32;
+pub use runs::clear8;
+pub use runs::clear16;
+pub use runs::clear32;
+pub use runs::fill8;
+pub use runs::fill16;
+pub use runs::fill32;
+pub use runs::is_same;
+pub use runs::least;
+pub use runs::within8;
+pub use runs::within16;
+pub use runs::within32;
 ghost use mathlib.Core.Path.{_≡_};
 ghost use Prim.Native.Nat.{_+_, _-_, _^_, _<_, _≤_};
 ghost use lib.ListN.{length, getD};
