@@ -8,8 +8,7 @@ use lib.ListN.{length, getD, replicate, length-replicate, getD-replicate, length
 use lib.Seq.{ext-getD, getD-set-same, getD-set-other}
 use lib.Bits.{bitXor, xor-zero-r, xor-zero-l}
 use Rattle.gf16.specs.Field.{mul, inv}
-use Rattle.gf16.proofs.Ring.{shuffle}
-use Rattle.gf16.proofs.Laws.{laws}
+use Rattle.gf16.proofs.Laws.{laws, shuffle}
 use Rattle.cauchy.proofs.algebra.GfLaws.{gf-laws, gf}
 use Rattle.cauchy.proofs.algebra.WordCode.{solve-correct, solve-unique, solve-below}
 use Rattle.cauchy.specs.inner.Promises.{Below, Square, unit}

@@ -11,6 +11,7 @@ use lib.Bits.{bitXor}
 use borrow.Author.Tests.{lt-ltb, le-ltb}
 use Rattle.little.specs.Fields.{le, bytesOf}
 use Rattle.little.specs.Parts.{block}
+use Rattle.little.specs.Runs.{zeros}
 use Rattle.little.proofs.FieldLaws.{le-part}
 use Rattle.little.proofs.PartLaws
 use Rattle.cauchy.specs.Code.{wordAt, joined, wordBytes, fieldSum, share, recoveryWord, recoveryBlock, codeBlock, Blocks}
@@ -41,6 +42,19 @@ pub length-wordBytes : (f : ℕ → ℕ) (c n : ℕ) → length (wordBytes f c n
 unfolding joined bytesOf
 length-wordBytes f c zero = refl
 length-wordBytes f c (suc n) = omega (arith, length-wordBytes f (suc c) n)
+
+-- zeros are the bytes of words that are 0
+zeros-from : (c n : ℕ) → zeros (2 * n) ≡ wordBytes (λ _. 0) c n
+unfolding joined bytesOf
+zeros-from c zero = refl
+zeros-from c (suc n) =
+    let e : 2 * suc n ≡ suc (suc (2 * n)) = omega arith in
+    ap zeros e ∙ ap (λ (l : List ℕ). 0 ∷ 0 ∷ l) (zeros-from (suc c) n)
+
+pub zero-words : (n : ℕ) → n % 2 ≡ 0 → zeros n ≡ wordBytes (λ _. 0) 0 (n / 2)
+zero-words n even =
+    let e : n ≡ 2 * (n / 2) = omega arith in
+    ap zeros e ∙ zeros-from 0 (n / 2)
 
 word-two : (x y : ℕ) (l : List ℕ) (q : ℕ) → wordAt (x ∷ y ∷ l) (suc (suc q)) ≡ wordAt l q
 unfolding le

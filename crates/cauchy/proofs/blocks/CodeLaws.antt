@@ -103,7 +103,7 @@ length-part n s j width store l h e = ap (λ (x : ℕ). length (take x (drop (j 
 
 -- ---- the last block apart from those before it
 
--- what the first blocks bring, alone and with the last one behind them
+-- what the first blocks bring, alone and with the last one after them
 front-shares : (c m s k : ℕ) (front last : List ℕ) (w : ℕ) → s % 2 ≡ 0 → length front ≡ c * s → w < s / 2
     → firstShares m s k front c w ≡ firstShares m s k (front ++ last) c w
 front-shares c m s k front last w even l hw =

@@ -23,11 +23,11 @@ use Rattle.cauchy.specs.Calls.{wrongShape, wrongMemory, byteOf, inRange,
 use Rattle.cauchy.specs.Theorems.{Decodes, DecodesWords}
 use Rattle.little.specs.Parts.{block}
 
--- a byte behind the first e blocks
-behind : (s e : ℕ) (g : ℕ → ℕ → ℕ) (base : List ℕ) (q : ℕ) → 0 < s → e * s ≤ q
+-- a byte after the first e blocks
+byte-after : (s e : ℕ) (g : ℕ → ℕ → ℕ) (base : List ℕ) (q : ℕ) → 0 < s → e * s ≤ q
     → cond (inRange s 0 (s / 2) e q) (byteOf (q % s % 2) (g (q / s) (q % s / 2))) (getD base q 0) ≡ getD base q 0
 unfolding inRange
-behind s e g base q hs h = go (decLt (q / s) e)
+byte-after s e g base q hs h = go (decLt (q / s) e)
   where
     go : Dec (q / s < e) → cond (ltb (q / s) e && (leb (2 * 0) (q % s) && ltb (q % s) (2 * (0 + s / 2)))) (byteOf (q % s % 2) (g (q / s) (q % s / 2))) (getD base q 0) ≡ getD base q 0
     go (yes y) = absurd (let k : q < e * s = div-lt-iff-lt-mul hs .0 y in omega arith)
@@ -99,7 +99,7 @@ in-blocks s store c (suc n) =
     (drop-drop s (c * s) store ∙ ap (λ (x : ℕ). drop x store) k ∙ in-blocks s store (suc c) n ∙ ap (λ (x : ℕ). joined (λ l. block s store l) (suc c) n ++ drop (x * s) store) e)
     ∙ sym (append-assoc (block s store c) (joined (λ l. block s store l) (suc c) n) (drop ((c + suc n) * s) store))
 
--- behind the blocks that are filled nothing changes
+-- after the blocks that are filled nothing changes
 rest-same : (s e : ℕ) (g : ℕ → ℕ → ℕ) (base : List ℕ) → 0 < s → drop (e * s) (filled s 0 (s / 2) e g base) ≡ drop (e * s) base
 rest-same s e g base hs =
     let room : 0 + s / 2 ≤ s / 2 = omega arith in
@@ -108,7 +108,7 @@ rest-same s e g base hs =
     (λ i m.
     getD-drop (e * s) (filled s 0 (s / 2) e g base) i 0
     ∙ getD-filled s 0 (s / 2) room e g base (e * s + i) (omega (arith, length-drop (e * s) (filled s 0 (s / 2) e g base)))
-    ∙ behind s e g base (e * s + i) hs (omega arith) ∙ sym (getD-drop (e * s) base i 0))
+    ∙ byte-after s e g base (e * s + i) hs (omega arith) ∙ sym (getD-drop (e * s) base i 0))
 
 pub all-columns : (n m s : ℕ) (marks store scratch : List ℕ) → 2 ≤ s → s % 2 ≡ 0 → length marks ≡ n + m → length scratch ≡ m * s → n ≤ holding marks
     → rebuiltScratch n m s marks store 0 (s / 2) scratch ≡ decodedScratch n m s marks store scratch

@@ -13,6 +13,8 @@ use lib.Bits.{bitXor}
 use borrow.Author.Tests.{lt-ltb, le-ltb}
 use Rattle.gf16.specs.Field.{inv}
 use Rattle.little.proofs.PartLaws.{length-part}
+use Rattle.little.specs.Runs.{zeros}
+use Rattle.cauchy.proofs.blocks.BlockLaws.{zero-words}
 use Rattle.cauchy.proofs.blocks.CodeLaws.{mulAdded-of}
 use Rattle.cauchy.proofs.blocks.Filled.{put-filled, read-filled, length-filled, getD-filled, filled-ext}
 use Rattle.cauchy.specs.inner.Promises.{Below, mulAdded, entriesOf, Inverse, Room, Rows, stepped, Weighs, AddsAll}
@@ -39,16 +41,16 @@ ltb-other l t n = go (decLt l t)
     go (no h) = le-ltb l t (omega arith) ∙ sym (le-ltb l (t + 1) (omega arith))
 
 pub cleared-turn : (s first count e t width : ℕ) (base F ys : List ℕ) → Room s first count e (2 * count) (length base) → t < e → width ≡ 2 * count
-    → F ≡ filled s first count t (λ l w. 0) base → ys ≡ wordBytes (λ _. 0) 0 (length (take width (drop (t * s + 2 * first) F)) / 2)
+    → F ≡ filled s first count t (λ l w. 0) base → ys ≡ zeros (length (take width (drop (t * s + 2 * first) F)))
     → take (t * s + 2 * first) F ++ (ys ++ drop width (drop (t * s + 2 * first) F)) ≡ filled s first count (t + 1) (λ l w. 0) base
 cleared-turn s first count e t width base F ys r ht ew eF ey =
     let k : (t + 1) * s ≤ e * s = mul-le-mul-right {m = t + 1} {n = e} s (omega arith) in
     let lF : length F ≡ length base = ap length eF ∙ length-filled s first count (r .words) t (λ l w. 0) base in
     let lp : length (take width (drop (t * s + 2 * first) F)) ≡ width = length-part F (t * s + 2 * first) width (omega (arith, r .inside, r .words)) in
     let n : length (take width (drop (t * s + 2 * first) F)) / 2 ≡ count = omega arith in
-    put-filled s first count (r .words) t (t + 1) (λ l w. 0) (λ l w. 0) base F ys t width (omega (arith, r .least)) (omega arith) (omega (arith, r .inside)) ew (λ l n. ltb-other l t n) (λ l w n h. refl) eF (ey ∙ ap (wordBytes (λ _. 0) 0) n)
+    put-filled s first count (r .words) t (t + 1) (λ l w. 0) (λ l w. 0) base F ys t width (omega (arith, r .least)) (omega arith) (omega (arith, r .inside)) ew (λ l n. ltb-other l t n) (λ l w n h. refl) eF (ey ∙ zero-words (length (take width (drop (t * s + 2 * first) F))) (omega arith) ∙ ap (wordBytes (λ _. 0) 0) n)
 
--- ---- a part comes in
+-- ---- a part is added
 
 abbrev pub mixing : List ℕ → List ℕ → List ℕ → List ℕ → ℕ → (ℕ → ℕ → ℕ) → ℕ → ℕ → ℕ → ℕ
 mixing xs ys v part first g t l w = cond (ltb l t) (stepped xs ys v part first g l w) (g l w)

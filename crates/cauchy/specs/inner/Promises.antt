@@ -7,12 +7,12 @@ use Prim.Native.Nat.{ℕ, suc, _+_, _-_, _*_, _/_, _%_, _≤_, _<_}
 use lib.ListN.{length, getD, drop, set, replicate}
 use lib.Bits.{bitXor}
 use Rattle.gf16.specs.Field.{mul, inv}
-use Rattle.cauchy.specs.Code.{wordAt, wordOf, wordBytes}
+use Rattle.cauchy.specs.Code.{mostData, mostRecovery, leastBlock, mostBlock, fieldSize, inverseRoom, wordAt, wordOf, wordBytes}
 use Rattle.cauchy.specs.inner.System.{Ops, field, dot, zeros, reduce, back, extend, solve}
 use Rattle.cauchy.specs.Decode.{sides}
 use Rattle.cauchy.specs.Calls.{filled}
 
--- each number is below b
+-- each element is below b
 abbrev pub Below : ℕ → List ℕ → Type 0
 Below b l = (i : ℕ) → i < length l → getD l i 0 < b
 
@@ -72,14 +72,14 @@ module _ (R : Ops) where
     abbrev Y : ℕ → F
     Y i = getD ys i O
 
-    -- round t of the forward pass: each row k after t
-    pub record Round (t : ℕ) (a a′ : List F) : Type 0 where
+    -- step t of the forward pass: row t is taken off each row k after it
+    pub record RowTakenOff (t : ℕ) (a a′ : List F) : Type 0 where
       pub size : length a′ ≡ length xs
       pub kept : (k : ℕ) → k ≤ t → getD a′ k O ≡ getD a k O
       pub made : (k : ℕ) → t < k → k < length xs → getD a′ k O ≡ ((X k ⊕ Y t) ⊗ getD a k O ⊕ (X t ⊕ Y t) ⊗ getD a t O) ⊗ inv (X t ⊕ X k)
 
-    -- turn t of the backward pass: each unknown k after t, and then the unknown t
-    pub record Turn (t : ℕ) (a a′ : List F) : Type 0 where
+    -- step t of the backward pass: each unknown k after t, and then the unknown t
+    pub record UnknownFound (t : ℕ) (a a′ : List F) : Type 0 where
       pub size : length a′ ≡ length xs
       pub kept : (k : ℕ) → k < t → getD a′ k O ≡ getD a k O
       pub made : (k : ℕ) → t < k → k < length xs → getD a′ k O ≡ getD a k O ⊗ ((X t ⊕ Y k) ⊗ inv (Y t ⊕ Y k))
@@ -93,7 +93,7 @@ pub record Ready (b : ℕ) (xs ys a : List ℕ) : Type 0 where
   pub ys-below : Below b ys
   pub a-below : Below b a
 
--- one right side of a round, one unknown of a turn, and its term in the sum
+-- one right side when a row is taken off, one unknown when it is put back, and its term in the sum
 abbrev pub reduceOne : ℕ → ℕ → ℕ → ℕ → ℕ → ℕ
 reduceOne x₀ y₀ s₀ x s = mul (bitXor (mul (bitXor x y₀) s) (mul (bitXor x₀ y₀) s₀)) (inv (bitXor x₀ x))
 
@@ -117,11 +117,11 @@ entriesOf (x ∷ xs) y = inv (bitXor x y) ∷ entriesOf xs y
 -- a system with as many rows as unknowns
 pub record Square (xs ys : List ℕ) : Type 0 where
   pub size : length ys ≡ length xs
-  pub xs-below : Below 65536 xs
-  pub ys-below : Below 65536 ys
+  pub xs-below : Below fieldSize xs
+  pub ys-below : Below fieldSize ys
   pub nodes : Nodes xs ys
 
--- row i of the numbers is the solution for the right side that is 1 in place i
+-- row i of the inverse is the solution for the right side that is 1 in place i
 pub record Inverse (xs ys numbers : List ℕ) : Type 0 where
   pub square : Square xs ys
   pub rows : (i l : ℕ) → i < length xs → l < length xs → getD numbers (i * length xs + l) 0 ≡ getD (solve field xs ys (unit (length xs) i)) l 0
@@ -130,26 +130,26 @@ pub record Inverse (xs ys numbers : List ℕ) : Type 0 where
 
 -- what is lent to the sums: ranges of count words from first on, in e blocks of scratch
 pub record Room (s first count e part scratch : ℕ) : Type 0 where
-  pub least : 2 ≤ s
-  pub most : s ≤ 4096
+  pub least : leastBlock ≤ s
+  pub most : s ≤ mostBlock
   pub even : s % 2 ≡ 0
   pub words : first + count ≤ s / 2
-  pub few : e ≤ 32
+  pub few : e ≤ mostRecovery
   pub inside : e * s ≤ scratch
   pub whole : part ≡ 2 * count
 
--- word w of a part that begins at word first comes in, with the solution for the right side v
+-- word w of a part that begins at word first is added, with the solution for the right side v
 abbrev pub stepped : List ℕ → List ℕ → List ℕ → List ℕ → ℕ → (ℕ → ℕ → ℕ) → ℕ → ℕ → ℕ
 stepped xs ys v part first g l w = bitXor (g l w) (mul (getD (solve field xs ys v) l 0) (wordAt part (2 * (w - first))))
 
--- r is number l of the solution for v, in each system whose inverse the numbers are
+-- r is element l of the solution for v, in each system whose inverse is in `numbers`
 abbrev pub Weighs : List ℕ → List ℕ → ℕ → ℕ → Type 0
-Weighs numbers v l r = (xs ys : List ℕ) → Inverse xs ys numbers → length v ≡ length xs → Below 65536 v → r ≡ getD (solve field xs ys v) l 0
+Weighs numbers v l r = (xs ys : List ℕ) → Inverse xs ys numbers → length v ≡ length xs → Below fieldSize v → r ≡ getD (solve field xs ys v) l 0
 
--- the words of a part have come in, with the solution for v
+-- the words of a part have been added, with the solution for v
 abbrev pub AddsAll : ℕ → ℕ → ℕ → List ℕ → List ℕ → List ℕ → List ℕ → List ℕ → Type 0
 AddsAll s first count v numbers part old new =
-    (xs ys : List ℕ) (g : ℕ → ℕ → ℕ) (base : List ℕ) → Inverse xs ys numbers → length v ≡ length xs → Below 65536 v → old ≡ filled s first count (length v) g base
+    (xs ys : List ℕ) (g : ℕ → ℕ → ℕ) (base : List ℕ) → Inverse xs ys numbers → length v ≡ length xs → Below fieldSize v → old ≡ filled s first count (length v) g base
     → new ≡ filled s first count (length v) (stepped xs ys v part first g) base
 
 -- word w of each of the recovery blocks
@@ -157,7 +157,7 @@ unfoldable pub recsOf : ℕ → ℕ → List ℕ → ℕ → List ℕ → List �
 recsOf n s store w [] = []
 recsOf n s store w (k ∷ ks) = wordOf s store (n + k) w ∷ recsOf n s store w ks
 
--- the recovery blocks have come in
+-- the recovery blocks have been added
 abbrev pub AddsRows : ℕ → ℕ → ℕ → ℕ → List ℕ → List ℕ → List ℕ → List ℕ → List ℕ → Type 0
 AddsRows n s first count xs numbers store old new =
     (ys base : List ℕ) → Inverse xs ys numbers → old ≡ filled s first count (length xs) (λ l w. 0) base
@@ -171,7 +171,22 @@ AddsData n m s first count marks xs numbers store old new =
 
 -- the store and the rows in it
 pub record Rows (n m s : ℕ) (xs store : List ℕ) : Type 0 where
-  pub n-most : n ≤ 1024
-  pub m-most : m ≤ 32
+  pub n-most : n ≤ mostData
+  pub m-most : m ≤ mostRecovery
   pub size : length store ≡ (n + m) * s
   pub below : (i : ℕ) → i < length xs → getD xs i 0 < m
+
+-- what the sums over blocks want: the store, the rows, room for one right side, the inverse's room and scratch
+abbrev pub Summing : ℕ → ℕ → ℕ → ℕ → ℕ → List ℕ → List ℕ → List ℕ → List ℕ → List ℕ → Type 0
+Summing n m s first count store xs v numbers scratch =
+    Room s first count (length xs) (2 * count) (length scratch) × (length numbers ≡ inverseRoom) × (length v ≡ length xs) × Rows n m s xs store
+
+-- and the marks beside them
+abbrev pub SummingData : ℕ → ℕ → ℕ → ℕ → ℕ → List ℕ → List ℕ → List ℕ → List ℕ → List ℕ → List ℕ → Type 0
+SummingData n m s first count store marks xs v numbers scratch =
+    Room s first count (length xs) (2 * count) (length scratch) × (length numbers ≡ inverseRoom) × (length v ≡ length xs) × Rows n m s xs store × (length marks ≡ n + m)
+
+-- scratch with the unknowns of the system with rows xs and columns ys in the words that are asked for
+abbrev pub solvedScratch : ℕ → ℕ → ℕ → ℕ → ℕ → List ℕ → List ℕ → List ℕ → List ℕ → List ℕ → List ℕ
+solvedScratch n m s first count marks store xs ys scratch =
+    filled s first count (length xs) (λ l w. getD (solve field xs ys (sides n m s marks store w xs)) l 0) scratch
