@@ -187,7 +187,7 @@ tail-unit v i j b hi hj = go (ℕ-discrete j i) (decLt j i)
     go (no n) (no l) =
         tailFrom-on i v j (omega arith) ∙ sym (ap₂ bitXor (tailFrom-on (suc i) v j (omega arith)) (ap (mul (getD v i 0)) (unit-other (length v) i j hj n) ∙ laws .mul-zero (getD v i 0)) ∙ xor-zero-r (getD v j 0))
 
--- the place i of v comes in
+-- the place i of v is added
 pub tail-step : (xs ys : List ℕ) (q : Square xs ys) (v : List ℕ) (i l : ℕ) → Below 65536 v → length v ≡ length xs → i < length xs → l < length xs
     → getD (solve field xs ys (tailFrom i v)) l 0 ≡ bitXor (getD (solve field xs ys (tailFrom (suc i) v)) l 0) (mul (getD v i 0) (getD (solve field xs ys (unit (length xs) i)) l 0))
 tail-step xs ys q v i l b lv hi hl =

@@ -40,7 +40,7 @@ by-bytes v = mod-mul v (lit< tt) (lit< tt)
 pub two-back : (v : ℕ) → v % 256 + (v / 256 % 256 + 0 * 256) * 256 ≡ v % 65536
 two-back v = omega (arith, by-bytes v)
 
--- the bytes see a number only as far as 16 bits hold it
+-- two bytes hold no more than 16 bits of a value
 pub bytes-mod : (v : ℕ) → bytesOf 2 (v % 65536) ≡ bytesOf 2 v
 bytes-mod v =
     let a : v % 65536 % 256 ≡ v % 256 = ap (λ (x : ℕ). x % 256) (by-bytes v) ∙ digits-mod (v / 256 % 256) (mod-lt v (lit< tt)) in

@@ -15,12 +15,12 @@ use Rattle.cauchy.specs.inner.Promises.{Below, Ready, unit, Square, Inve
 use Rattle.cauchy.specs.inner.System.{solve, field}
 use Rattle.cauchy.proofs.algebra.SystemLaws.{length-solve}
 
--- ---- places among the numbers
+-- ---- places in the inverse's room
 
 pub square-inside : (e i : ℕ) → e ≤ 32 → i < e → i * e + e ≤ 1024
 square-inside e i h hi = omega (arith, mul-le-mul-right {m = i + 1} {n = e} e (omega arith), mul-le-mul {n₁ = e} {m₁ = e} {n₂ = 32} {m₂ = 32} h h)
 
--- ---- number l of a solution
+-- ---- element l of a solution
 
 pub weigh-start : (numbers v : List ℕ) (l : ℕ) (xs ys : List ℕ) → Inverse xs ys numbers → length v ≡ length xs → 0 ≡ getD (solve field xs ys (tailFrom (length v) v)) l 0
 weigh-start numbers v l xs ys I lv = sym (ap (λ (k : ℕ). getD (solve field xs ys (tailFrom k v)) l 0) lv ∙ tail-start xs ys (I .square) v l lv)

@@ -1,4 +1,4 @@
--- Lists written into lent numbers, and parts put back into a slice. Assumes nothing.
+-- The loops over marks, a law for each turn: the lists of missing blocks and of rows, and how many are held. Assumes nothing.
 use mathlib.Core.Path.{_≡_, refl, sym, _∙_, ap, ap₂}
 use mathlib.Core.List.{List, [], _∷_, _++_}
 use Prim.Native.Nat.{ℕ, zero, suc, _+_, _-_, _≤_, _<_}

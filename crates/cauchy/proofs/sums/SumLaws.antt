@@ -1,4 +1,4 @@
--- The sums of rebuilding: recovery blocks, then held data blocks, come into the solution. Assumes nothing.
+-- The sums of rebuilding: recovery blocks, then held data blocks, are added to the solution. Assumes nothing.
 use mathlib.Core.Path.{_≡_, refl, sym, _∙_, ap, ap₂}
 use mathlib.Core.List.{List, [], _∷_}
 use Prim.Native.Nat.{ℕ, zero, suc, _+_, _-_, _*_, _/_, _≤_, _<_, suc-le-suc}
@@ -91,7 +91,7 @@ rowing-end n s first count xs numbers store old new J k z R ys base I e =
 
 -- ---- the held data blocks
 
--- what has come in, for row k and word w, when the data blocks from j on have
+-- what has been added, for row k and word w, when the data blocks from j on have
 abbrev partial : ℕ → ℕ → ℕ → List ℕ → List ℕ → ℕ → ℕ → ℕ → ℕ
 partial n m s marks store w j k = bitXor (heldRow k (m + j) (drop j (held (take n marks))) (drop j (column s w n store))) (wordAt store ((n + k) * s + 2 * w))
 

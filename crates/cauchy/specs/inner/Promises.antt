@@ -1,4 +1,4 @@
--- What the inner functions promise each other: a reader of the public promises can skip this file. Assumes nothing: these are
+-- A reader of the promises may skip this file: it says what the inner functions promise each other. Assumes nothing: these are
 -- definitions.
 use mathlib.Core.Path.{_≡_}
 use mathlib.Core.Logic.{_≢_}

@@ -1,7 +1,7 @@
--- The equations that give the missing words: for rows x and columns y, no two of them alike, find d with the field sum over l of
--- d_l / (x_i + y_l) equal to s_i for each i. They are solved by taking off one row and one column at a time. That the solution is
--- the only one is proved (proofs/SystemLaws.antt); `known` (specs/Theorems.antt) says what it means for the code.
--- Assumes nothing: these are definitions.
+-- A reader of the promises may skip this file. The equations that give the missing words: for rows x and columns y, no two of
+-- them alike, find d with the field sum over l of d_l / (x_i + y_l) equal to s_i for each i. They are solved by taking off one row
+-- and one column at a time. That the solution is the only one is proved (proofs/algebra/SystemLaws.antt); `known`
+-- (specs/Theorems.antt) says what it means for the code. Assumes nothing: these are definitions.
 use mathlib.Core.List.{List, [], _∷_}
 use Prim.Native.Nat.{ℕ}
 use lib.Bits.{bitXor}
