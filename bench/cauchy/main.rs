@@ -32,7 +32,7 @@ fn encode_time(n: usize, m: usize, s: usize) -> f64 {
 fn rebuild_time(n: usize, m: usize, s: usize, gone: usize) -> f64 {
     let (data, store, marks) = store(n, m, s, gone);
     let mut scratch = vec![0xEE; m * s];
-    let time = seconds(9, || proved::rebuild_all(n, m, s, &marks, &store, &mut scratch));
+    let time = seconds(9, || proved::rebuild_all(n, m, s, &store, &marks, &mut scratch));
     assert!(scratch[..gone * s] == data[..gone * s], "the rebuilt blocks are wrong");
     time
 }

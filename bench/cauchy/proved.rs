@@ -2,7 +2,7 @@
 extern "C" {
     fn cauchy_recovery(n: usize, m: usize, s: usize, k: usize, store: *const u8, store_len: usize, out: *mut u8, out_len: usize) -> u8;
     fn cauchy_rebuild_all(
-        n: usize, m: usize, s: usize, marks: *const u8, marks_len: usize, store: *const u8, store_len: usize,
+        n: usize, m: usize, s: usize, store: *const u8, store_len: usize, marks: *const u8, marks_len: usize,
         scratch: *mut u8, scratch_len: usize, numbers: *mut u16, numbers_len: usize,
     ) -> u8;
 }
@@ -14,11 +14,11 @@ pub fn recovery(n: usize, m: usize, s: usize, k: usize, store: &[u8]) -> Vec<u8>
     out
 }
 
-pub fn rebuild_all(n: usize, m: usize, s: usize, marks: &[u8], store: &[u8], scratch: &mut [u8]) {
+pub fn rebuild_all(n: usize, m: usize, s: usize, store: &[u8], marks: &[u8], scratch: &mut [u8]) {
     let mut numbers = vec![7u16; 1024];
     let answer = unsafe {
         cauchy_rebuild_all(
-            n, m, s, marks.as_ptr(), marks.len(), store.as_ptr(), store.len(),
+            n, m, s, store.as_ptr(), store.len(), marks.as_ptr(), marks.len(),
             scratch.as_mut_ptr(), scratch.len(), numbers.as_mut_ptr(), numbers.len(),
         )
     };

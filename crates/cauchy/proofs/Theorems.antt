@@ -1,9 +1,9 @@
 -- All that is stated of the code. Assumes nothing.
 use Rattle.cauchy.specs.Theorems.{Theorems}
-use Rattle.cauchy.proofs.Known.{known, one, some, free}
-use Rattle.cauchy.proofs.BlindLaws.{blind}
-use Rattle.cauchy.proofs.UsedLaws.{used, used-one}
-use Rattle.cauchy.proofs.Decoded.{decodes, decodes-words}
+use Rattle.cauchy.proofs.decoding.Known.{known, one, some, free}
+use Rattle.cauchy.proofs.decoding.BlindLaws.{blind}
+use Rattle.cauchy.proofs.decoding.UsedLaws.{used, used-one}
+use Rattle.cauchy.proofs.decoding.Decoded.{decodes, decodes-words}
 
 pub theorems : Theorems
 theorems = record {

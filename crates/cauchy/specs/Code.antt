@@ -1,5 +1,5 @@
 -- The code (document 01, "The code"): which bytes the n + m blocks have, given the n data blocks. Blocks have s bytes each, and
--- a store is its blocks, one behind the other. Assumes nothing: these are definitions.
+-- a store is its blocks, one after the other. Assumes nothing: these are definitions.
 use mathlib.Core.Path.{_≡_}
 use mathlib.Core.Bool.{cond}
 use mathlib.Core.List.{List, [], _++_}
@@ -10,6 +10,35 @@ use lib.Bits.{bitXor}
 use Rattle.little.specs.Fields.{Bytes, le, bytesOf}
 use Rattle.little.specs.Parts.{block}
 use Rattle.gf16.specs.Field.{mul, inv}
+
+-- ---- the house limits (document 01, "The receiver and its house limits"), and sizes that follow
+
+-- data blocks, recovery blocks, and bytes of a block
+abbrev pub mostData : ℕ
+mostData = 1024
+
+abbrev pub mostRecovery : ℕ
+mostRecovery = 32
+
+abbrev pub leastBlock : ℕ
+leastBlock = 2
+
+abbrev pub mostBlock : ℕ
+mostBlock = 4096
+
+-- how many elements the field has: each is a number below this
+abbrev pub fieldSize : ℕ
+fieldSize = 65536
+
+-- room for the inverse of the largest system, in field elements: 32 times 32
+abbrev pub inverseRoom : ℕ
+inverseRoom = 1024
+
+-- the mark of an index that is held
+abbrev pub heldMark : ℕ
+heldMark = 1
+
+-- ---- words, blocks, the code
 
 -- the word whose low byte lies at place `at`
 abbrev pub wordAt : List ℕ → ℕ → ℕ
@@ -55,7 +84,7 @@ Blocks n s store = (length store ≡ n * s) × Bytes store
 -- The marks of n + m indices (document 01, "Marks, hand-out, prefix"): an index is held if its mark is 1. Absent is 0, barred is
 -- 2, and neither they nor a mark above 2, which the layer above refuses by 71, count as held.
 abbrev pub Held : List ℕ → ℕ → Type 0
-Held marks i = getD marks i 0 ≡ 1
+Held marks i = getD marks i 0 ≡ heldMark
 
 -- n data blocks whose code has, at each held index, the block that the store has there
 abbrev pub Fits : ℕ → ℕ → ℕ → List ℕ → List ℕ → List ℕ → Type 0

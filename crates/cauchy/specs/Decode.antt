@@ -8,13 +8,13 @@ use lib.ListN.{length, getD, take, drop}
 use lib.Dec.{eqb}
 use lib.Bits.{bitXor}
 use Rattle.little.specs.Parts.{block}
-use Rattle.cauchy.specs.Code.{wordOf, wordBytes, joined, fieldSum, share}
-use Rattle.cauchy.specs.System.{field, solve}
+use Rattle.cauchy.specs.Code.{heldMark, wordOf, wordBytes, joined, fieldSum, share}
+use Rattle.cauchy.specs.inner.System.{field, solve}
 
 -- 1 for each held index, 0 for each other
 unfoldable pub held : List ℕ → List ℕ
 held [] = []
-held (mark ∷ marks) = cond (eqb mark 1) 1 0 ∷ held marks
+held (mark ∷ marks) = cond (eqb mark heldMark) 1 0 ∷ held marks
 
 -- how many are not 0
 unfoldable pub count : List ℕ → ℕ
@@ -42,13 +42,17 @@ holding marks = count (held marks)
 abbrev pub missingData : ℕ → List ℕ → List ℕ
 missingData n marks = missing 0 (held (take n marks))
 
+-- their nodes in the code, m + j for data block j
+abbrev pub missingNodes : ℕ → ℕ → List ℕ → List ℕ
+missingNodes n m marks = missing m (held (take n marks))
+
 -- the recovery blocks that are used: the lowest of the held ones, one for each missing data block
 unfoldable pub rowsUsed : ℕ → List ℕ → List ℕ
 rowsUsed n marks = take (length (missingData n marks)) (present 0 (held (drop n marks)))
 
 -- the shares of the held data blocks in word w of recovery block k, added up
 unfoldable pub heldSum : ℕ → ℕ → ℕ → List ℕ → List ℕ → ℕ → ℕ → ℕ
-heldSum n m s marks store k w = fieldSum (λ j. cond (eqb (getD marks j 0) 1) (share m s store k w j) 0) 0 n
+heldSum n m s marks store k w = fieldSum (λ j. cond (eqb (getD marks j 0) heldMark) (share m s store k w j) 0) 0 n
 
 -- what the missing data blocks bring to word w of recovery block k: all of that word but the held blocks' shares
 unfoldable pub side : ℕ → ℕ → ℕ → List ℕ → List ℕ → ℕ → ℕ → ℕ
@@ -61,7 +65,7 @@ sides n m s marks store w (k ∷ ks) = side n m s marks store w k ∷ sides n m 
 -- word w of each missing data block, rising
 unfoldable pub foundWords : ℕ → ℕ → ℕ → List ℕ → List ℕ → ℕ → List ℕ
 foundWords n m s marks store w =
-    solve field (rowsUsed n marks) (missing m (held (take n marks))) (sides n m s marks store w (rowsUsed n marks))
+    solve field (rowsUsed n marks) (missingNodes n m marks) (sides n m s marks store w (rowsUsed n marks))
 
 -- how many data blocks below j are missing
 unfoldable pub rank : ℕ → List ℕ → ℕ
@@ -70,7 +74,7 @@ rank j marks = length (missing 0 (held (take j marks)))
 -- data block j, where at least n are held: as it lies in the store, or rebuilt
 unfoldable pub decode : ℕ → ℕ → ℕ → List ℕ → List ℕ → ℕ → List ℕ
 decode n m s marks store j =
-    cond (eqb (getD marks j 0) 1) (block s store j) (wordBytes (λ w. getD (foundWords n m s marks store w) (rank j marks) 0) 0 (s / 2))
+    cond (eqb (getD marks j 0) heldMark) (block s store j) (wordBytes (λ w. getD (foundWords n m s marks store w) (rank j marks) 0) 0 (s / 2))
 
 -- all n data blocks
 unfoldable pub decoded : ℕ → ℕ → ℕ → List ℕ → List ℕ → List ℕ
@@ -80,7 +84,7 @@ decoded n m s marks store = joined (λ j. decode n m s marks store j) 0 n
 unfoldable pub firstHeld : ℕ → List ℕ → List ℕ
 firstHeld e [] = []
 firstHeld zero (mark ∷ marks) = 0 ∷ firstHeld zero marks
-firstHeld (suc e) (mark ∷ marks) = cond (eqb mark 1) (1 ∷ firstHeld e marks) (0 ∷ firstHeld (suc e) marks)
+firstHeld (suc e) (mark ∷ marks) = cond (eqb mark heldMark) (heldMark ∷ firstHeld e marks) (0 ∷ firstHeld (suc e) marks)
 
 -- the marks of what `decode` uses: the data's, and those of as many held recovery blocks as data blocks are missing, the lowest
 unfoldable pub usedMarks : ℕ → List ℕ → List ℕ

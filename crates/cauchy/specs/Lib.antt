@@ -1,8 +1,7 @@
--- The definitions and statements of the crate: Code, Decode, Theorems and Calls are what a reader of the promises needs.
+-- The definitions and statements of the crate. To be believed: Code, Decode, Calls, Theorems, Worked. To be skipped: inner.
 pub mod Code
-pub mod System
 pub mod Decode
 pub mod Calls
 pub mod Theorems
 pub mod Worked
-pub mod Inner
+pub mod inner

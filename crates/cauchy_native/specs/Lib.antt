@@ -1,2 +1,2 @@
--- The numbers under which the answers go out.
+-- The numbers under which the answers go out, and what the calls leave.
 pub mod Number

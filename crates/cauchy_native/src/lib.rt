@@ -4,8 +4,9 @@ use cauchy::rebuild_all;
 use cauchy::recovery;
 ghost use mathlib.Core.Path.{_≡_};
 ghost use Rattle.cauchy.specs.Calls.{recoverySpec, rebuildAllSpec};
-ghost use Rattle.cauchy_native.specs.Number.{numberOf};
+ghost use Rattle.cauchy_native.specs.Number.{numberOf, recoveryLeft, numberedRecovery, rebuildLeft, numberedRebuild};
 
+// 0 for done, 1 for a wrong shape, 2 for too few held.
 fn number(a: Answer) -> u8
     ensures { λ r. ⌜ r ≡ numberOf a ⌝ }
 {
@@ -16,6 +17,7 @@ fn number(a: Answer) -> u8
     }
 }
 
+// Recovery block k into `out`.
 #[no_mangle]
 pub extern "C" fn cauchy_recovery(
     n: usize,
@@ -25,22 +27,23 @@ pub extern "C" fn cauchy_recovery(
     store: &[u8],
     out: &mut [u8],
 ) -> u8
-    ensures { λ r. ⌜ (r ≡ numberOf (recoverySpec n m s k (now (store .entry)) (now (out .entry)) .answer)) × (now (out .exit) ≡ recoverySpec n m s k (now (store .entry)) (now (out .entry)) .out) ⌝ }
+    ensures { λ r. ⌜ recoveryLeft (now (out .exit)) r ≡ numberedRecovery (recoverySpec n m s k (now (store .entry)) (now (out .entry))) ⌝ }
 {
     number(recovery(n, m, s, k, store, out))
 }
 
+// The missing data blocks, rising, into scratch.
 #[no_mangle]
 pub extern "C" fn cauchy_rebuild_all(
     n: usize,
     m: usize,
     s: usize,
-    marks: &[u8],
     store: &[u8],
+    marks: &[u8],
     scratch: &mut [u8],
     numbers: &mut [u16],
 ) -> u8
-    ensures { λ r. ⌜ (r ≡ numberOf (rebuildAllSpec n m s (now (marks .entry)) (now (store .entry)) (now (scratch .entry)) (now (numbers .entry)) .answer)) × (now (scratch .exit) ≡ rebuildAllSpec n m s (now (marks .entry)) (now (store .entry)) (now (scratch .entry)) (now (numbers .entry)) .scratch) × (now (numbers .exit) ≡ rebuildAllSpec n m s (now (marks .entry)) (now (store .entry)) (now (scratch .entry)) (now (numbers .entry)) .numbers) ⌝ }
+    ensures { λ r. ⌜ rebuildLeft (now (scratch .exit)) (now (numbers .exit)) r ≡ numberedRebuild (rebuildAllSpec n m s (now (marks .entry)) (now (store .entry)) (now (scratch .entry)) (now (numbers .entry))) ⌝ }
 {
-    number(rebuild_all(n, m, s, marks, store, scratch, numbers))
+    number(rebuild_all(n, m, s, store, marks, scratch, numbers))
 }

@@ -1,13 +1,19 @@
 // What fills lent memory, and digests of it: a linear congruential generator, dirt, marks, stores with garbage.
+
+// The generator's states are the numbers below 2^32, and a digest is a number below the largest prime under that.
+const STATES: u64 = 4294967296;
+
+const PRIME: u64 = 4294967291;
+
 fn next(state: u64) -> u64 {
-    (state % 4294967296 * 1103515245 + 12345) % 4294967296
+    (state % STATES * 1103515245 + 12345) % STATES
 }
 
 fn low_byte(x: u64) -> u8 {
     (x % 256) as u8
 }
 
-pub fn fill(out: &mut [u8], seed: u64) {
+pub(crate) fn fill(out: &mut [u8], seed: u64) {
     let mut state = seed;
     let mut i: usize = 0;
     while i < out.len() {
@@ -17,7 +23,7 @@ pub fn fill(out: &mut [u8], seed: u64) {
     }
 }
 
-pub fn dirty(out: &mut [u8]) {
+pub(crate) fn dirty(out: &mut [u8]) {
     let mut i: usize = 0;
     while i < out.len() {
         out[i] = 0xEE;
@@ -25,7 +31,7 @@ pub fn dirty(out: &mut [u8]) {
     }
 }
 
-pub fn dirty_numbers(out: &mut [u16]) {
+pub(crate) fn dirty_numbers(out: &mut [u16]) {
     let mut i: usize = 0;
     while i < out.len() {
         out[i] = 7;
@@ -33,9 +39,9 @@ pub fn dirty_numbers(out: &mut [u16]) {
     }
 }
 
-// One number more in a digest modulo a prime below 2^32.
-pub fn mixed(digest: u64, x: u64) -> u64 {
-    (digest % 4294967291 * 65599 + x % 65536 + 1) % 4294967291
+// One value more in a digest.
+pub(crate) fn mixed(digest: u64, x: u64) -> u64 {
+    (digest % PRIME * 65599 + x % 65536 + 1) % PRIME
 }
 
 fn wide(x: u8) -> u64 {
@@ -46,7 +52,7 @@ fn wide_number(x: u16) -> u64 {
     x as u64
 }
 
-pub fn digest_bytes(start: u64, bytes: &[u8]) -> u64 {
+pub(crate) fn digest_bytes(start: u64, bytes: &[u8]) -> u64 {
     let mut digest = start;
     let mut i: usize = 0;
     while i < bytes.len() {
@@ -56,7 +62,7 @@ pub fn digest_bytes(start: u64, bytes: &[u8]) -> u64 {
     digest
 }
 
-pub fn digest_numbers(start: u64, numbers: &[u16]) -> u64 {
+pub(crate) fn digest_numbers(start: u64, numbers: &[u16]) -> u64 {
     let mut digest = start;
     let mut i: usize = 0;
     while i < numbers.len() {
@@ -78,7 +84,7 @@ fn mark_of(gone: bool, i: usize) -> u8 {
 }
 
 // Index i is gone if bit i of the mask is set.
-pub fn mark_by_mask(marks: &mut [u8], mask: u64) {
+pub(crate) fn mark_by_mask(marks: &mut [u8], mask: u64) {
     let mut rest = mask;
     let mut i: usize = 0;
     while i < marks.len() {
@@ -89,7 +95,7 @@ pub fn mark_by_mask(marks: &mut [u8], mask: u64) {
 }
 
 // Each 33rd index is gone, from `first` on.
-pub fn mark_each_33(marks: &mut [u8], first: usize) {
+pub(crate) fn mark_each_33(marks: &mut [u8], first: usize) {
     let mut i: usize = 0;
     while i < marks.len() {
         marks[i] = mark_of(i % 33 == first, i);
@@ -98,7 +104,7 @@ pub fn mark_each_33(marks: &mut [u8], first: usize) {
 }
 
 // The indices from `from` on, below `to`, are gone.
-pub fn mark_range(marks: &mut [u8], from: usize, to: usize) {
+pub(crate) fn mark_range(marks: &mut [u8], from: usize, to: usize) {
     let mut i: usize = 0;
     while i < marks.len() {
         marks[i] = mark_of((from <= i) & (i < to), i);
@@ -110,7 +116,7 @@ fn byte_at(bytes: &[u8], i: usize) -> u8 {
     if i < bytes.len() { bytes[i] } else { 0 }
 }
 
-pub fn copy(source: &[u8], out: &mut [u8]) {
+pub(crate) fn copy(source: &[u8], out: &mut [u8]) {
     let mut i: usize = 0;
     while i < out.len() {
         out[i] = byte_at(source, i);
@@ -130,7 +136,7 @@ fn lent_byte(whole: &[u8], marks: &[u8], s: usize, i: usize) -> u8 {
     }
 }
 
-pub fn damage(whole: &[u8], marks: &[u8], s: usize, store: &mut [u8]) {
+pub(crate) fn damage(whole: &[u8], marks: &[u8], s: usize, store: &mut [u8]) {
     let mut i: usize = 0;
     while i < store.len() {
         store[i] = lent_byte(whole, marks, s, i);

@@ -13,7 +13,7 @@ use crate::fillers::mixed;
 use cauchy::Answer;
 use libc::STDOUT_FILENO;
 
-pub fn number_of(answer: Answer) -> u64 {
+pub(crate) fn number_of(answer: Answer) -> u64 {
     match answer {
         Answer::Done => 0,
         Answer::BadShape => 1,
@@ -21,15 +21,15 @@ pub fn number_of(answer: Answer) -> u64 {
     }
 }
 
-pub fn word(text: &[u8]) {
+pub(crate) fn word(text: &[u8]) {
     io::write_all(STDOUT_FILENO, text);
 }
 
-pub fn decimal(n: usize) {
+pub(crate) fn decimal(n: usize) {
     io::print_decimal(STDOUT_FILENO, n as u64);
 }
 
-pub fn hex8(n: u64) {
+pub(crate) fn hex8(n: u64) {
     io::print_hex(STDOUT_FILENO, n, 8);
 }
 
@@ -45,7 +45,7 @@ fn hex_bytes(bytes: &[u8]) {
     }
 }
 
-// Recovery block k, from place `at` of the whole store on if it lies inside; the place behind it.
+// Recovery block k, from place `at` of the whole store on if it lies inside; the answer is the place after it.
 fn put_recovery(
     n: usize,
     m: usize,
@@ -68,7 +68,7 @@ fn put_recovery(
     end
 }
 
-// The data blocks, and behind them their recovery blocks.
+// The data blocks, and after them their recovery blocks.
 fn encode(n: usize, m: usize, s: usize, content: &[u8], whole: &mut [u8]) {
     copy(content, whole);
     let mut at = content.len();
@@ -94,7 +94,7 @@ fn rebuilt(
     damage(whole, marks, s, store);
     dirty(scratch);
     dirty_numbers(numbers);
-    let answer = number_of(cauchy::rebuild_all(n, m, s, marks, store, scratch, numbers));
+    let answer = number_of(cauchy::rebuild_all(n, m, s, store, marks, scratch, numbers));
     digest_numbers(digest_bytes(mixed(digest, answer), scratch), numbers)
 }
 
@@ -133,7 +133,7 @@ fn show_sets(whole: &[u8]) {
     }
 }
 
-pub fn three_and_two() {
+pub(crate) fn three_and_two() {
     let mut content = [0u8; 12];
     let mut whole = [0u8; 20];
     fill(&mut content, 1);
@@ -204,7 +204,7 @@ fn small_code(n: usize, m: usize) {
 }
 
 // Each code of one to eight data and up to four recovery blocks.
-pub fn small_codes() {
+pub(crate) fn small_codes() {
     let mut i: usize = 0;
     while i < 40 {
         small_code(1 + i / 5, i % 5);
@@ -246,7 +246,7 @@ fn full_each_33(label: &[u8], whole: &[u8], first: usize) {
 }
 
 // The largest code of document 01, in blocks of four bytes.
-pub fn full_code() {
+pub(crate) fn full_code() {
     let mut content = [0u8; 4096];
     let mut whole = [0u8; 4224];
     fill(&mut content, 1);
@@ -262,7 +262,7 @@ pub fn full_code() {
 }
 
 // Three data and two recovery blocks of 64 bytes.
-pub fn wide_code() {
+pub(crate) fn wide_code() {
     let mut content = [0u8; 192];
     let mut whole = [0u8; 320];
     let mut marks = [0u8; 5];
@@ -297,8 +297,8 @@ fn show_range(first: usize, count: usize, marks: &[u8], store: &[u8]) {
         5,
         3,
         8,
-        marks,
         store,
+        marks,
         &mut scratch,
         &mut numbers,
         first,
@@ -324,7 +324,7 @@ fn show_ranges(marks: &[u8], store: &[u8]) {
 }
 
 // Every range of the four columns of a code of eight bytes a block, and ranges that are too long.
-pub fn column_ranges() {
+pub(crate) fn column_ranges() {
     let mut content = [0u8; 40];
     let mut whole = [0u8; 64];
     let mut marks = [0u8; 8];

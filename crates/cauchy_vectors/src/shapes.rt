@@ -29,7 +29,7 @@ fn show_recovery(n: usize, m: usize, s: usize, k: usize) {
     word(b"\n");
 }
 
-pub fn recoveries() {
+pub(crate) fn recoveries() {
     show_recovery(3, 2, 4, 1);
     show_recovery(3, 2, 4, 2);
     show_recovery(0, 2, 4, 1);
@@ -55,8 +55,8 @@ fn show_rebuild(n: usize, m: usize, s: usize) {
         n,
         m,
         s,
-        &marks,
         &store,
+        &marks,
         &mut scratch,
         &mut numbers,
     ));
@@ -73,7 +73,7 @@ fn show_rebuild(n: usize, m: usize, s: usize) {
     word(b"\n");
 }
 
-pub fn rebuilds() {
+pub(crate) fn rebuilds() {
     show_rebuild(3, 2, 4);
     show_rebuild(2, 3, 4);
     show_rebuild(0, 5, 4);

@@ -26,7 +26,13 @@ fn worked() {
     line_end();
 }
 
-// A running digest at base 65537 modulo two primes below 2^32: a wrong, missing or moved number changes it.
+const BASE: u64 = 65537;
+
+const LOW_PRIME: u64 = 4294967291;
+
+const HIGH_PRIME: u64 = 4294967279;
+
+// A running digest at base 65537 modulo two primes below 2^32: a wrong, missing or moved value changes it.
 struct Digest {
     low: u64,
     high: u64,
@@ -39,8 +45,8 @@ impl Digest {
 
     fn take(self, x: u16) -> Digest {
         Digest {
-            low: (self.low % 4294967291 * 65537 + x as u64) % 4294967291,
-            high: (self.high % 4294967279 * 65537 + x as u64) % 4294967279,
+            low: (self.low % LOW_PRIME * BASE + x as u64) % LOW_PRIME,
+            high: (self.high % HIGH_PRIME * BASE + x as u64) % HIGH_PRIME,
         }
     }
 
@@ -87,7 +93,7 @@ fn right_factor(i: u64) -> u16 {
     ((i % 65536 * 25717 + 3) % 65536) as u16
 }
 
-// Sixteen products from number `first` on.
+// Sixteen products, from product `first` on.
 fn row(first: u64) {
     let mut left: u64 = 16;
     while 0 < left {

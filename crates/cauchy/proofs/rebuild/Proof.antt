@@ -1,7 +1,7 @@
 -- `rebuild` meets its contract. Assumes nothing.
 use mathlib.Core.Path.{sym, _∙_}
 use native.Mathlib.Omega.{arith}
-use Rattle.cauchy.proofs.EndLaws.{rebuild-shape, rebuild-memory, rebuild-few, rebuild-done}
+use Rattle.cauchy.proofs.columns.EndLaws.{rebuild-shape, rebuild-memory, rebuild-few, rebuild-done}
 use borrow.Author.Needs.{needs}
 use Rattle.cauchy.proofs.rebuild.Statement.{statement}
 use Rattle.cauchy.proofs.rebuild.Tie as tie

@@ -1,7 +1,7 @@
 -- `rebuild_all` meets its contract. Assumes nothing.
 use mathlib.Core.Path.{_∙_}
 use borrow.Author.Needs.{needs}
-use Rattle.cauchy.proofs.Decoded.{all-is}
+use Rattle.cauchy.proofs.decoding.Decoded.{all-is}
 use Rattle.cauchy.proofs.rebuild_all.Statement.{statement}
 use Rattle.cauchy.proofs.rebuild_all.Tie as tie
 

@@ -1,7 +1,7 @@
 -- `recovery` meets its contract. Assumes nothing.
 use mathlib.Core.Path.{sym, _∙_}
 use native.Mathlib.Omega.{arith}
-use Rattle.cauchy.proofs.ShapeLaws.{right, few}
+use Rattle.cauchy.proofs.shape.ShapeLaws.{right, few}
 use Rattle.cauchy.proofs.CallLaws.{recovery-shape, recovery-lent, recovery-done, lent-right}
 use borrow.Author.Needs.{needs}
 use Rattle.cauchy.proofs.recovery.Statement.{statement}

@@ -3,8 +3,8 @@ use mathlib.Core.Path.{sym, _∙_, ap}
 use Prim.Native.Nat.{_-_}
 use native.Mathlib.Omega.{arith}
 use lib.ListN.{length}
-use Rattle.cauchy.proofs.ShapeLaws.{right, few}
-use Rattle.cauchy.proofs.CodeLaws.{length-recovery, parts-made}
+use Rattle.cauchy.proofs.shape.ShapeLaws.{right, few}
+use Rattle.cauchy.proofs.blocks.CodeLaws.{length-recovery, parts-made}
 use Rattle.cauchy.proofs.CallLaws.{parts-shape, parts-lent, parts-done, parts-right}
 use borrow.Author.Needs.{needs}
 use Rattle.cauchy.proofs.recovery_of_parts.Statement.{statement}

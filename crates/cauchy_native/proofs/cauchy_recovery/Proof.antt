@@ -9,7 +9,8 @@ use Rattle.cauchy_native.proofs.cauchy_recovery.Tie as tie
 returns : tie.Need-returns
 returns c =
     let e = c .before .before .before .recovery .ensures in
-    (c .number .ensures ∙ ap (λ (r : Recovered). numberOf (r .answer)) e, ap (λ (r : Recovered). r .out) e)
+    let a = c .number .ensures ∙ ap (λ (r : Recovered). numberOf (r .answer)) e in
+    λ i. record { out = e i .out; answer = a i }
 
 pub cauchy-recovery-spec : {M : Type 1} → statement M
 cauchy-recovery-spec = tie.close (tie.spec (λ c κs. search needs) (λ c κs. search needs) (λ c. search needs) returns)

@@ -1,5 +1,5 @@
 -- `rebuild_words` meets its contract. Assumes nothing.
-use Rattle.cauchy.proofs.EndLaws.{length-zeros, fine, enough, solvable, rows-are, rebuilt}
+use Rattle.cauchy.proofs.columns.EndLaws.{length-zeros, fine, enough, solvable, rows-are, rebuilt}
 use mathlib.Core.Path.{refl, sym, _∙_}
 use Prim.Native.Nat.{_≤_}
 use native.Mathlib.Omega.{arith}
@@ -38,7 +38,7 @@ solve-words-requires c κs = let a = c .before .before .before .before .before .
     let q = solvable (a .n) (a .m) (a .s) (a .first) (a .count) (a .marks .now) (a .store .now) (a .scratch .now) (a .numbers .now) _ _ f (g .2) ex ey in
     let k = c .before .before .before .before .before .before .list-rows .kept .1 .1 .1 .1 .0 in
     let t : c .before .before .before .before .before .before .before .before .before .list-missing .result ≤ 32 = omega (arith, h .few, f .shape, c .before .before .before .before .before .before .before .before .before .list-missing .ensures .0) in
-    (q .square, q .room, f .numbers-long, length-zeros (c .before .before .before .before .before .before .before .before .before .list-missing .result) t ∙ sym (length-take-le (c .before .before .before .before .before .before .before .before .before .list-missing .result) (c .before .before .before .before .before .before .list-rows .last .1 .1 .1 .1 .0) (omega (arith, k, t))), q .rows, f .marks-long)
+    (q .square, (q .room, f .numbers-long, length-zeros (c .before .before .before .before .before .before .before .before .before .list-missing .result) t ∙ sym (length-take-le (c .before .before .before .before .before .before .before .before .before .list-missing .result) (c .before .before .before .before .before .before .list-rows .last .1 .1 .1 .1 .0) (omega (arith, k, t))), q .rows, f .marks-long))
 
 returns : tie.Need-returns
 returns c = let a = c .before .before .before .before .before .before .before .before .before .before .before .before .before .before .before .before .before .before .before .before .before .args in let g = c .before .before .before .before .before .before .before .before .before .before .before .before .before .before .before .before .before .before .before .before .before .pre in let f = fine (a .n) (a .m) (a .s) _ _ _ _ (a .first) (a .count) (g .0) (g .1) in let h = enough (a .n) (a .m) (a .marks .now) (f .marks-long) (g .2) in let ex = rows-are (a .n) (a .m) (c .before .before .before .before .before .before .before .before .before .before .before .before .before .before .before .list-missing .result) (a .marks .now) (take (c .before .before .before .before .before .before .before .before .before .before .before .before .before .before .before .list-missing .result) (c .before .before .before .before .before .before .before .before .before .before .before .before .list-rows .last .1 .1 .1 .1 .0)) (f .marks-long) (g .2) (c .before .before .before .before .before .before .before .before .before .before .before .before .before .before .before .list-missing .ensures .0) (c .before .before .before .before .before .before .before .before .before .before .before .before .list-rows .ensures) in let ey = c .before .before .before .before .before .before .before .before .before .before .before .before .before .before .before .list-missing .ensures .1 in

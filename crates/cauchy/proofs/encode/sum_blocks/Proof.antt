@@ -7,8 +7,9 @@ use lib.ListN.{length}
 use borrow.Author.Needs.{needs}
 use Rattle.cauchy.specs.Code.{wordBytes}
 use Rattle.little.proofs.PartLaws.{block-inside}
-use Rattle.cauchy.proofs.ShapeLaws.{few}
-use Rattle.cauchy.proofs.CodeLaws.{length-part, firstShares, sum-start, sum-turn, sum-end, length-out}
+use Rattle.cauchy.proofs.shape.ShapeLaws.{few}
+use Rattle.cauchy.proofs.blocks.BlockLaws.{zero-words}
+use Rattle.cauchy.proofs.blocks.CodeLaws.{length-part, firstShares, sum-start, sum-turn, sum-end, length-out}
 use Rattle.cauchy.proofs.encode.sum_blocks.Statement.{statement}
 use Rattle.cauchy.proofs.encode.sum_blocks.Tie as tie
 
@@ -18,16 +19,13 @@ Inv-loop count m s k store out₀ j₀ out j = (j ≤ count) × (length out ≡ 
 abbrev μ-loop : tie.MeasureT-loop
 μ-loop count m s k store out₀ j₀ out j = count - j
 
-clear-requires : tie.Need-clear-requires Inv-loop μ-loop
-clear-requires c κs = let p = c .before .before .before .pre in omega (arith, p .3, p .6)
-
 loop-holds : tie.Need-loop-holds Inv-loop μ-loop
 loop-holds c =
     let q = c .before .before .before .before .before .before in
     let a = q .args in
     let e : wordBytes (λ _. 0) 0 (length (a .out .now) / 2) ≡ wordBytes (firstShares (a .m) (a .s) (a .k) (a .store .now) 0) 0 (a .s / 2) =
     ap (λ (x : ℕ). wordBytes (λ _. 0) 0 (x / 2)) (q .pre .6) ∙ sum-start (a .m) (a .s) (a .k) (a .store .now) (a .s / 2) in
-    let f = c .before .before .clear .ensures ∙ e in
+    let f = c .before .before .clear8 .ensures ∙ zero-words (length (a .out .now)) (omega (arith, q .pre .3, q .pre .6)) ∙ e in
     (omega arith, length-out _ (a .s) _ (q .pre .3) f, f)
 
 entry-requires : tie.Need-entry-requires Inv-loop μ-loop
@@ -78,7 +76,7 @@ sum-blocks-spec =
     (tie.spec
     Inv-loop
     μ-loop
-    clear-requires
+    (λ c κs. search needs)
     loop-holds
     entry-requires
     mul-at

@@ -1,6 +1,6 @@
 -- `invert` meets its contract. Assumes nothing.
 use Rattle.little.proofs.PartLaws.{length-part}
-use Rattle.cauchy.proofs.RebuildLaws.{square-inside, Rowed, rowed-start, rowed-turn, rowed-end}
+use Rattle.cauchy.proofs.inverse.InverseLaws.{square-inside, Rowed, rowed-start, rowed-turn, rowed-end}
 use mathlib.Core.Path.{_≡_, _∙_}
 use Prim.Native.Nat.{_+_, _-_, _*_, _≤_}
 use native.Mathlib.Nat.{add-sub-cancel-left}

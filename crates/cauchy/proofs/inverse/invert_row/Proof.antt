@@ -1,12 +1,12 @@
 -- `invert_row` meets its contract. Assumes nothing.
 use mathlib.Core.Path.{ap, _∙_}
 use Prim.Native.Nat.{ℕ}
-use Rattle.cauchy.proofs.RebuildLaws.{unit-ready}
+use Rattle.cauchy.proofs.inverse.InverseLaws.{unit-ready}
 use borrow.Author.Needs.{needs}
 use Rattle.cauchy.proofs.inverse.invert_row.Statement.{statement}
 use Rattle.cauchy.proofs.inverse.invert_row.Tie as tie
-use Rattle.cauchy.specs.System.{solve, field}
-use Rattle.cauchy.specs.Inner.{unit}
+use Rattle.cauchy.specs.inner.System.{solve, field}
+use Rattle.cauchy.specs.inner.Promises.{unit}
 
 solve-in-place-requires : tie.Need-solve-in-place-requires
 solve-in-place-requires c κs = let a = c .before .before .before .before .before .before .before .before .args in let g = c .before .before .before .before .before .before .before .before .pre in unit-ready (a .xs .now) (a .ys .now) _ (a .i) (g .0) (c .before .before .before .set-unit .ensures ∙ ap (λ (x : ℕ). unit x (a .i)) (g .1))

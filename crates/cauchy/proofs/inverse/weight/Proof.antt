@@ -4,13 +4,13 @@ use mathlib.Core.List.{List}
 use Prim.Native.Nat.{ℕ, _-_, _≤_}
 use native.Mathlib.Omega.{arith}
 use lib.ListN.{length, getD}
-use Rattle.cauchy.proofs.Linear.{tailFrom}
-use Rattle.cauchy.proofs.RebuildLaws.{square-inside, weigh-start, weigh-turn, weigh-end}
+use Rattle.cauchy.proofs.algebra.Linear.{tailFrom}
+use Rattle.cauchy.proofs.inverse.InverseLaws.{square-inside, weigh-start, weigh-turn, weigh-end}
 use borrow.Author.Needs.{needs}
 use Rattle.cauchy.proofs.inverse.weight.Statement.{statement}
 use Rattle.cauchy.proofs.inverse.weight.Tie as tie
-use Rattle.cauchy.specs.Inner.{Below, Inverse}
-use Rattle.cauchy.specs.System.{solve, field}
+use Rattle.cauchy.specs.inner.Promises.{Below, Inverse}
+use Rattle.cauchy.specs.inner.System.{solve, field}
 
 abbrev Inv-loop : tie.InvT-loop
 Inv-loop numbers v l sum₀ i₀ sum i = (i ≤ length v) × ((xs ys : List ℕ) → Inverse xs ys numbers → length v ≡ length xs → Below 65536 v → sum ≡ getD (solve field xs ys (tailFrom i v)) l 0)

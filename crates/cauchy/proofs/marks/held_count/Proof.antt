@@ -3,7 +3,7 @@ use mathlib.Core.Path.{_≡_}
 use Prim.Native.Nat.{_+_, _≤_}
 use native.Mathlib.Omega.{arith}
 use lib.ListN.{length, drop}
-use Rattle.cauchy.proofs.ListLaws.{holding-one, holding-other, holding-start, holding-end}
+use Rattle.cauchy.proofs.marks.ListLaws.{holding-one, holding-other, holding-start, holding-end}
 use borrow.Author.Needs.{needs}
 use Rattle.cauchy.proofs.marks.held_count.Statement.{statement}
 use Rattle.cauchy.proofs.marks.held_count.Tie as tie

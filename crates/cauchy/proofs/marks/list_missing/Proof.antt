@@ -3,7 +3,7 @@ use mathlib.Core.Path.{refl}
 use mathlib.Core.Logic.{⊎-elim}
 use Prim.Native.Nat.{_-_}
 use native.Mathlib.Omega.{arith}
-use Rattle.cauchy.proofs.ListLaws.{Missed, missed-start, missed-held, missed-lost, missed-end, lost}
+use Rattle.cauchy.proofs.marks.ListLaws.{Missed, missed-start, missed-held, missed-lost, missed-end, lost}
 use borrow.Author.Needs.{needs}
 use Rattle.cauchy.proofs.marks.list_missing.Statement.{statement}
 use Rattle.cauchy.proofs.marks.list_missing.Tie as tie

@@ -3,7 +3,7 @@ use mathlib.Core.Path.{_≡_, refl}
 use mathlib.Core.Logic.{⊎-elim}
 use Prim.Native.Nat.{_-_, _≤_}
 use native.Mathlib.Omega.{arith}
-use Rattle.cauchy.proofs.ListLaws.{Picked, picked-start, picked-more, picked-skip, picked-take}
+use Rattle.cauchy.proofs.marks.ListLaws.{Picked, picked-start, picked-more, picked-skip, picked-take}
 use borrow.Author.Needs.{needs}
 use Rattle.cauchy.proofs.marks.list_rows.Statement.{statement}
 use Rattle.cauchy.proofs.marks.list_rows.Tie as tie

@@ -6,9 +6,9 @@ use borrow.Author.Needs.{needs}
 use lib.ListN.{length}
 use Rattle.cauchy.proofs.solver.pass_backward.Statement.{statement}
 use Rattle.cauchy.proofs.solver.pass_backward.Tie as tie
-use Rattle.cauchy.specs.Inner.{Below}
-use Rattle.cauchy.proofs.Passes.{Backward, backward-start, backward-next, backward-end, ready-after}
-use Rattle.cauchy.specs.System.{field}
+use Rattle.cauchy.specs.inner.Promises.{Below}
+use Rattle.cauchy.proofs.solver.Passes.{Backward, backward-start, backward-next, backward-end, ready-after}
+use Rattle.cauchy.specs.inner.System.{field}
 
 abbrev Inv-loop : tie.InvT-loop
 Inv-loop xs ys a₀ t₀ a t = Backward field xs ys a₀ t a × Below 65536 a × (t ≤ length xs)
@@ -21,8 +21,8 @@ loop-holds c =
     let s = c .before .before .before in
     (backward-start field (s .args .xs .now) (s .args .ys .now) (s .pre .ys-size) (s .args .a .now) (s .pre .a-size), s .pre .a-below, omega arith)
 
-turn-requires : tie.Need-turn-requires Inv-loop μ-loop
-turn-requires c κs =
+find-unknown-requires : tie.Need-find-unknown-requires Inv-loop μ-loop
+find-unknown-requires c κs =
     let s = c .before .before .before .before .before .before in
     let l = c .before .before .loop in
     (ready-after 65536 (s .args .xs .now) (s .args .ys .now) (s .args .a .now) (l .a) (s .pre) (l .inv .0 .size) (l .inv .1), omega arith)
@@ -31,7 +31,7 @@ loop-again : tie.Need-loop-again Inv-loop μ-loop
 loop-again c =
     let s = c .before .before .before .before .before .before .before .before .before in
     let l = c .before .before .before .before .before .loop in
-    let r = c .before .before .turn .ensures in
+    let r = c .before .before .find-unknown .ensures in
     let e : l .t ≡ suc (l .t - 1) = omega arith in (
       backward-next field (s .args .xs .now) (s .args .ys .now) (s .pre .ys-size) (s .args .a .now) (l .t - 1) (l .a) _ (s .pre .a-size) (omega arith)
           (subst (λ (n : ℕ). Backward field (s .args .xs .now) (s .args .ys .now) (s .args .a .now) n (l .a)) e (l .inv .0)) (r .0),
@@ -57,7 +57,7 @@ pass-backward-spec =
     μ-loop
     loop-holds
     (λ c. search needs)
-    turn-requires
+    find-unknown-requires
     (λ c. search needs)
     loop-again
     (λ c. search needs)

@@ -3,9 +3,9 @@ use mathlib.Core.Path.{sym, _∙_, ap}
 use borrow.Author.Needs.{needs}
 use Rattle.cauchy.proofs.solver.solve_in_place.Statement.{statement}
 use Rattle.cauchy.proofs.solver.solve_in_place.Tie as tie
-use Rattle.cauchy.specs.Inner.{backward}
-use Rattle.cauchy.proofs.SystemLaws.{solve-passes}
-use Rattle.cauchy.specs.System.{field}
+use Rattle.cauchy.specs.inner.Promises.{backward}
+use Rattle.cauchy.proofs.algebra.SystemLaws.{solve-passes}
+use Rattle.cauchy.specs.inner.System.{field}
 
 returns : tie.Need-returns
 returns c =

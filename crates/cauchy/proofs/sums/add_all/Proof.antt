@@ -4,7 +4,7 @@ use Prim.Native.Nat.{_+_, _-_, _*_, _≤_}
 use native.Mathlib.Nat.{add-sub-cancel-left}
 use native.Mathlib.Omega.{arith}
 use lib.ListN.{length}
-use Rattle.cauchy.proofs.RebuildLaws.{range-in, range-small, Adding, adding-start, adding-turn, adding-end}
+use Rattle.cauchy.proofs.sums.RangeLaws.{range-in, range-small, Adding, adding-start, adding-turn, adding-end}
 use borrow.Author.Needs.{needs}
 use Rattle.cauchy.proofs.sums.add_all.Statement.{statement}
 use Rattle.cauchy.proofs.sums.add_all.Tie as tie

@@ -1,20 +1,20 @@
 -- `add_data` meets its contract. Assumes nothing.
-use Rattle.cauchy.proofs.RebuildLaws.{part-in, part-long, room-for, length-entries}
+use Rattle.cauchy.proofs.sums.RangeLaws.{part-in, part-long, room-for, length-entries}
 use mathlib.Core.Path.{_≡_, refl, _∙_, ap}
 use Prim.Native.Nat.{_+_, _-_, _*_, _≤_}
 use native.Mathlib.Nat.{add-sub-cancel-left}
 use native.Mathlib.Omega.{arith}
 use lib.ListN.{length}
-use Rattle.cauchy.proofs.SumLaws.{Coming, coming-start, coming-held, coming-other, coming-end}
+use Rattle.cauchy.proofs.sums.SumLaws.{Coming, coming-start, coming-held, coming-other, coming-end}
 use borrow.Author.Needs.{needs}
 use Rattle.cauchy.proofs.sums.add_data.Statement.{statement}
 use Rattle.cauchy.proofs.sums.add_data.Tie as tie
 
 abbrev Inv-loop : tie.InvT-loop
-Inv-loop n m s first count marks xs numbers store v₀ scratch₀ j₀ v scratch j = (j ≤ n) × (length scratch ≡ length scratch₀) × (length v ≡ length xs) × Coming n m s first count marks xs numbers store scratch₀ scratch j
+Inv-loop n m s first count store marks xs numbers v₀ scratch₀ j₀ v scratch j = (j ≤ n) × (length scratch ≡ length scratch₀) × (length v ≡ length xs) × Coming n m s first count marks xs numbers store scratch₀ scratch j
 
 abbrev μ-loop : tie.MeasureT-loop
-μ-loop n m s first count marks xs numbers store v₀ scratch₀ j₀ v scratch j = j
+μ-loop n m s first count store marks xs numbers v₀ scratch₀ j₀ v scratch j = j
 
 loop-holds : tie.Need-loop-holds Inv-loop μ-loop
 loop-holds c = let a = c .before .before .before .before .before .before .args in let g = c .before .before .before .before .before .before .pre in (omega arith, refl, g .2, coming-start (a .n) (a .m) (a .s) (a .first) (a .count) (a .marks .now) (a .xs .now) (a .numbers .now) (a .store .now) (a .scratch .now) (g .0 .words) (omega (arith, g .4)))
@@ -40,7 +40,7 @@ loop-again c = let a = c .before .before .before .before .before .before .before
   omega arith,
   search needs,
   ap length (c .before .before .before .before .before .before .before .before .entries .ensures) ∙ length-entries _ _,
-  coming-held (a .n) (a .m) (a .s) (a .first) (a .count) (a .marks .now) (a .xs .now) (a .numbers .now) (a .store .now) (a .scratch .now) (l .scratch) _ _ (l .j) ((l .j - 1) * a .s + 2 * a .first + 2 * a .count - ((l .j - 1) * a .s + 2 * a .first)) (g .0 .words) (omega (arith, g .4)) (λ i _. c .before .before .before .before .before .before .before .before .before .before .before .before .before .before .before .before .shared-slice-known4 .given i .fits) (omega (arith, g .3 .n-most, g .3 .m-most)) (add-sub-cancel-left ((l .j - 1) * a .s + 2 * a .first) (2 * a .count)) (omega arith) (l .inv .0)
+  coming-held (a .n) (a .m) (a .s) (a .first) (a .count) (a .marks .now) (a .xs .now) (a .numbers .now) (a .store .now) (a .scratch .now) (l .scratch) _ _ (l .j) ((l .j - 1) * a .s + 2 * a .first + 2 * a .count - ((l .j - 1) * a .s + 2 * a .first)) (g .0 .words) (omega (arith, g .4)) (λ i _. c .before .before .before .before .before .before .before .before .before .before .before .before .before .before .before .before .before .before .before .shared-slice-known .given i .fits) (omega (arith, g .3 .n-most, g .3 .m-most)) (add-sub-cancel-left ((l .j - 1) * a .s + 2 * a .first) (2 * a .count)) (omega arith) (l .inv .0)
       (c .before .before .before .before .before .before .before .before .before .before .if1 .taken) (c .before .before .before .before .before .before .before .before .entries .ensures) (l .inv .3) (c .before .before .add-all .ensures),
 )
 

@@ -1,22 +1,22 @@
 -- `add_rows` meets its contract. Assumes nothing.
-use Rattle.cauchy.proofs.RebuildLaws.{part-in, part-long, room-for}
-use Rattle.cauchy.proofs.Linear.{length-unit}
+use Rattle.cauchy.proofs.sums.RangeLaws.{part-in, part-long, room-for}
+use Rattle.cauchy.proofs.algebra.Linear.{length-unit}
 use mathlib.Core.Path.{_≡_, refl, _∙_, ap}
 use Prim.Native.Nat.{ℕ, _+_, _-_, _*_, _≤_}
 use native.Mathlib.Nat.{add-sub-cancel-left}
 use native.Mathlib.Omega.{arith}
 use lib.ListN.{length, getD}
-use Rattle.cauchy.proofs.SumLaws.{Rowing, rowing-start, rowing-turn, rowing-end}
+use Rattle.cauchy.proofs.sums.SumLaws.{Rowing, rowing-start, rowing-turn, rowing-end}
 use borrow.Author.Needs.{needs}
 use Rattle.cauchy.proofs.sums.add_rows.Statement.{statement}
 use Rattle.cauchy.proofs.sums.add_rows.Tie as tie
-use Rattle.cauchy.specs.Inner.{unit}
+use Rattle.cauchy.specs.inner.Promises.{unit}
 
 abbrev Inv-loop : tie.InvT-loop
-Inv-loop n m s first count xs numbers store v₀ scratch₀ i₀ v scratch i = (i ≤ length xs) × (length scratch ≡ length scratch₀) × (length v ≡ length xs) × Rowing n s first count xs numbers store scratch₀ scratch i
+Inv-loop n m s first count store xs numbers v₀ scratch₀ i₀ v scratch i = (i ≤ length xs) × (length scratch ≡ length scratch₀) × (length v ≡ length xs) × Rowing n s first count xs numbers store scratch₀ scratch i
 
 abbrev μ-loop : tie.MeasureT-loop
-μ-loop n m s first count xs numbers store v₀ scratch₀ i₀ v scratch i = i
+μ-loop n m s first count store xs numbers v₀ scratch₀ i₀ v scratch i = i
 
 loop-holds : tie.Need-loop-holds Inv-loop μ-loop
 loop-holds c = let a = c .before .before .before .before .before .args in let g = c .before .before .before .before .before .pre in (omega arith, refl, g .2, rowing-start (a .n) (a .s) (a .first) (a .count) (a .xs .now) (a .numbers .now) (a .store .now) (a .scratch .now) (g .0 .words))
@@ -48,7 +48,7 @@ loop-again c = let a = c .before .before .before .before .before .before .before
   omega arith,
   search needs,
   ap length (c .before .before .before .before .before .before .before .before .before .set-unit .ensures) ∙ length-unit _ _ ∙ l .inv .2,
-  rowing-turn (a .n) (a .s) (a .first) (a .count) (a .xs .now) (a .numbers .now) (a .store .now) (a .scratch .now) (l .scratch) _ _ (l .i) ((a .n + getD (a .xs .now) (l .i - 1) 0) * a .s + 2 * a .first + 2 * a .count - ((a .n + getD (a .xs .now) (l .i - 1) 0) * a .s + 2 * a .first)) (g .0 .words) (λ i _. c .before .before .before .before .before .before .before .before .before .before .before .before .before .before .before .shared-slice-known3 .given i .fits) (add-sub-cancel-left ((a .n + getD (a .xs .now) (l .i - 1) 0) * a .s + 2 * a .first) (2 * a .count)) (omega arith) (l .inv .0)
+  rowing-turn (a .n) (a .s) (a .first) (a .count) (a .xs .now) (a .numbers .now) (a .store .now) (a .scratch .now) (l .scratch) _ _ (l .i) ((a .n + getD (a .xs .now) (l .i - 1) 0) * a .s + 2 * a .first + 2 * a .count - ((a .n + getD (a .xs .now) (l .i - 1) 0) * a .s + 2 * a .first)) (g .0 .words) (λ i _. c .before .before .before .before .before .before .before .before .before .before .before .before .before .before .before .before .before .shared-slice-known .given i .fits) (add-sub-cancel-left ((a .n + getD (a .xs .now) (l .i - 1) 0) * a .s + 2 * a .first) (2 * a .count)) (omega arith) (l .inv .0)
       (c .before .before .before .before .before .before .before .before .before .set-unit .ensures ∙ ap (λ (x : ℕ). unit x (l .i - 1)) (l .inv .2)) (l .inv .3) (c .before .before .add-all .ensures),
 )
 

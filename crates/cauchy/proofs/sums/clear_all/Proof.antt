@@ -1,11 +1,11 @@
 -- `clear_all` meets its contract. Assumes nothing.
-use Rattle.cauchy.proofs.RebuildLaws.{range-in, range-small, cleared-start, cleared-turn}
+use Rattle.cauchy.proofs.sums.RangeLaws.{range-in, range-small, cleared-start, cleared-turn}
 use mathlib.Core.Path.{_≡_, refl, _∙_, ap}
 use Prim.Native.Nat.{_+_, _-_, _*_, _≤_}
 use native.Mathlib.Nat.{add-sub-cancel-left}
 use native.Mathlib.Omega.{arith}
 use lib.ListN.{length}
-use Rattle.cauchy.proofs.Filled.{length-filled}
+use Rattle.cauchy.proofs.blocks.Filled.{length-filled}
 use borrow.Author.Needs.{needs}
 use Rattle.cauchy.proofs.sums.clear_all.Statement.{statement}
 use Rattle.cauchy.proofs.sums.clear_all.Tie as tie
@@ -29,12 +29,12 @@ add-at c = let a = c .before .before .before .args in let r = c .before .before 
 add-end : tie.Need-add-end Inv-loop μ-loop
 add-end c = let a = c .before .before .before .args in let r = c .before .before .before .pre in let l = c .before .loop in omega (arith, r, range-in (a .s) (a .first) (a .count) (a .e) _ _ (l .l) r (omega arith), range-small (a .s) (a .first) (a .count) (a .e) _ _ r)
 
-part-clear-end : tie.Need-part-clear-end Inv-loop μ-loop
-part-clear-end c = let a = c .before .before .before .args in let r = c .before .before .before .pre in let l = c .before .loop in omega (arith, r, range-in (a .s) (a .first) (a .count) (a .e) _ _ (l .l) r (omega arith), range-small (a .s) (a .first) (a .count) (a .e) _ _ r)
+part-clear8-end : tie.Need-part-clear8-end Inv-loop μ-loop
+part-clear8-end c = let a = c .before .before .before .args in let r = c .before .before .before .pre in let l = c .before .loop in omega (arith, r, range-in (a .s) (a .first) (a .count) (a .e) _ _ (l .l) r (omega arith), range-small (a .s) (a .first) (a .count) (a .e) _ _ r)
 
 loop-again : tie.Need-loop-again Inv-loop μ-loop
 loop-again c = let a = c .before .before .before .before .before .before .before .args in let r = c .before .before .before .before .before .before .before .pre in let l = c .before .before .before .before .before .loop in
-    let f = cleared-turn (a .s) (a .first) (a .count) (a .e) (l .l) _ (a .scratch .now) (l .scratch) _ r (omega arith) (add-sub-cancel-left (l .l * a .s + 2 * a .first) (2 * a .count)) (l .inv .2) (c .before .before .clear .ensures) in
+    let f = cleared-turn (a .s) (a .first) (a .count) (a .e) (l .l) _ (a .scratch .now) (l .scratch) _ r (omega arith) (add-sub-cancel-left (l .l * a .s + 2 * a .first) (2 * a .count)) (l .inv .2) (c .before .before .clear8 .ensures) in
     (omega arith, ap length f ∙ length-filled (a .s) (a .first) (a .count) (r .words) (l .l + 1) (λ l w. 0) (a .scratch .now), f)
 
 returns : tie.Need-returns Inv-loop μ-loop
@@ -54,7 +54,7 @@ clear-all-spec =
     add-end
     (λ c. search needs)
     (λ c. search needs)
-    part-clear-end
+    part-clear8-end
     (λ c κs. search needs)
     (λ c. search needs)
     (λ c. search needs)

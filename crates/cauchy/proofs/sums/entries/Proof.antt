@@ -7,7 +7,7 @@ use lib.ListN.{length, getD, length-set}
 use lib.Seq.{getD-set-same, getD-set-other, ext-getD}
 use lib.Bits.{bitXor}
 use Rattle.gf16.specs.Field.{inv}
-use Rattle.cauchy.proofs.RebuildLaws.{getD-entries, length-entries}
+use Rattle.cauchy.proofs.sums.RangeLaws.{getD-entries, length-entries}
 use borrow.Author.Needs.{needs}
 use Rattle.cauchy.proofs.sums.entries.Statement.{statement}
 use Rattle.cauchy.proofs.sums.entries.Tie as tie
@@ -23,7 +23,7 @@ loop-again c = let l = c .before .before .before .before .loop in (
   omega arith,
   simp length-set (l .inv .1),
   below-more _ _ (λ k h. getD-set-other (l .out) (l .i) k _ 0 (omega arith) ∙ l .inv .2 k h)
-      (getD-set-same (l .out) (l .i) _ 0 (omega arith) ∙ c .over .ensures .0 ∙ ap inv (c .before .plus .ensures .0)),
+      (getD-set-same (l .out) (l .i) _ 0 (omega arith) ∙ c .one-over .ensures .0 ∙ ap inv (c .before .plus .ensures .0)),
 )
 
 returns : tie.Need-returns Inv-loop μ-loop

@@ -3,12 +3,12 @@ use mathlib.Core.Path.{_≡_, refl}
 use Prim.Native.Nat.{_-_, _*_, _/_, _%_, _≤_}
 use native.Mathlib.Omega.{arith}
 use lib.ListN.{length, length-set}
-use Rattle.cauchy.proofs.MixLaws.{mixed, mixed-start, mixed-turn, mixed-end}
-use Rattle.cauchy.proofs.CodeLaws.{mixing, mixing-made}
+use Rattle.cauchy.proofs.words.MixLaws.{mixed, mixed-start, mixed-turn, mixed-end}
+use Rattle.cauchy.proofs.blocks.CodeLaws.{mixing, mixing-made}
 use borrow.Author.Needs.{needs}
 use Rattle.cauchy.proofs.words.mul_add.Statement.{statement}
 use Rattle.cauchy.proofs.words.mul_add.Tie as tie
-use Rattle.cauchy.specs.Inner.{mulAdded}
+use Rattle.cauchy.specs.inner.Promises.{mulAdded}
 
 abbrev Inv-loop : tie.InvT-loop
 Inv-loop dst₀ src c w₀ dst w = (w ≤ length dst₀ / 2) × (length dst ≡ length dst₀) × (dst ≡ mixed (mixing c dst₀ src) w dst₀)

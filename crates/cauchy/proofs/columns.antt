@@ -1,0 +1,2 @@
+-- The laws of rebuilding as a whole.
+pub mod EndLaws

@@ -1,0 +1,2 @@
+-- What a right shape tells.
+pub mod ShapeLaws

@@ -1,0 +1,3 @@
+-- The laws of the sums over held blocks.
+pub mod RangeLaws
+pub mod SumLaws
