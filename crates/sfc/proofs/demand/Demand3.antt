@@ -11,7 +11,7 @@ use Rattle.little.specs.Parts.{put, block}
 use Rattle.little.proofs.TestLaws.{or-false, and-both}
 use Rattle.cauchy.specs.Decode.{decode, decoded, holding}
 use Rattle.cauchy.specs.Theorems.{Shape}
-use Rattle.cauchy.proofs.UsedLaws.{as-decoded}
+use Rattle.cauchy.proofs.ForUpperFloors.{as-decoded}
 use Rattle.cauchy.proofs.Theorems.{theorems}
 use Rattle.sfc.specs.answer.Numbers.{Answered}
 use Rattle.sfc.specs.session.Marks.{isHeld}

@@ -12,7 +12,7 @@ use lib.Seq.{length-take-le}
 use Rattle.little.specs.Parts.{part, put}
 use Rattle.little.proofs.PartLaws.{block-inside}
 use Rattle.cauchy.specs.Decode.{held, rank, decode}
-use Rattle.cauchy.proofs.Known.{length-held, length-missing}
+use Rattle.cauchy.proofs.ForUpperFloors.{length-held, length-missing}
 use Rattle.little.specs.Runs.{zeros}
 use Rattle.sfc.specs.session.Marks.{isHeld, heldCount}
 use Rattle.sfc.specs.answer.Places.{number, place}

@@ -19,8 +19,7 @@ use Rattle.blake3.proofs.RunningLaws.{with-both}
 use Rattle.blake3.proofs.AnyCut.{fed-bytes}
 use Rattle.cauchy.specs.Code.{joined}
 use Rattle.cauchy.specs.Decode.{held, missing, missingData, rank, decode, decoded}
-use Rattle.cauchy.proofs.Known.{length-held, held-one, held-none, held-take, missing-at}
-use Rattle.cauchy.proofs.ListLaws.{missing-more, missing-same}
+use Rattle.cauchy.proofs.ForUpperFloors.{length-held, held-one, held-none, held-take, missing-at, missing-more, missing-same}
 use Rattle.little.proofs.ListLaws.{copied, put-next, copied-in, length-cut, cut-long}
 use Rattle.sfc.proofs.session.HeldLaws.{decode-held, length-decode}
 use Rattle.sfc.specs.inner.Gather.{Restored, Cut}

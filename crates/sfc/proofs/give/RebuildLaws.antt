@@ -13,8 +13,7 @@ use Rattle.little.proofs.TestLaws.{or-false}
 use Rattle.cauchy.specs.Decode.{holding, missingData}
 use Rattle.cauchy.specs.Calls.{wrongShape, wrongMemory, Rebuilt, decodedScratch, rebuildAllSpec}
 use Rattle.cauchy.specs.declared.Answer.{Answer}
-use Rattle.cauchy.proofs.Decoded.{decodes}
-use Rattle.cauchy.proofs.EndLaws.{enough}
+use Rattle.cauchy.proofs.ForUpperFloors.{decodes, enough}
 use Rattle.sfc.specs.session.Marks.{heldCount}
 use Rattle.sfc.specs.session.Lent.{lentWrong, Lent, rebuildWrong}
 use Rattle.sfc.specs.inner.Gather.{Rebuildable, Restored, Cut}

@@ -14,7 +14,7 @@ use lib.Seq.{getD-take, take-add}
 use Rattle.little.specs.Parts.{put, block}
 use Rattle.little.proofs.PartLaws.{below-or}
 use Rattle.cauchy.specs.Decode.{decode, decoded}
-use Rattle.cauchy.proofs.BlockLaws.{joined-ext}
+use Rattle.cauchy.proofs.ForUpperFloors.{joined-ext}
 use Rattle.cauchy.proofs.Theorems.{theorems}
 use Rattle.sfc.specs.answer.Numbers.{Check, checked, passes}
 use Rattle.sfc.specs.answer.Places.{number, place}

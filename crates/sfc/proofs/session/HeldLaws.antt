@@ -15,7 +15,7 @@ use Rattle.little.proofs.PartLaws.{length-block, part-append-right}
 use Rattle.cauchy.specs.Code.{joined, wordBytes, Held}
 use Rattle.cauchy.specs.Decode.{held, count, holding, rank, foundWords, decode, decoded}
 use Rattle.cauchy.specs.Theorems.{Shape}
-use Rattle.cauchy.proofs.BlockLaws.{length-wordBytes}
+use Rattle.cauchy.proofs.ForUpperFloors.{length-wordBytes}
 use Rattle.sfc.specs.session.Marks.{isHeld, heldCount}
 use Rattle.sfc.specs.session.Lent.{lentWrong}
 use Rattle.sfc.specs.give.HandOut.{contentOf}

@@ -13,8 +13,7 @@ use Rattle.little.proofs.PartLaws.{block-inside, length-part, part-append-left,
 use Rattle.cauchy.specs.Code.{joined, recoveryBlock, codeBlock}
 use Rattle.cauchy.specs.Calls.{wrongShape, wrongParts, partsSpec, Recovered}
 use Rattle.cauchy.specs.declared.Answer.{Answer}
-use Rattle.cauchy.proofs.ShapeLaws.{right}
-use Rattle.cauchy.proofs.CodeLaws.{length-recovery}
+use Rattle.cauchy.proofs.ForUpperFloors.{right, length-recovery}
 use Rattle.sfc.specs.writing.Writer.{chunkHeader, sealed, chunkBytes}
 use Rattle.sfc.proofs.writing.FillLaws.{Front, front-start, front-length, front-end, front-lent, front-is, front-first, front-take}
 use Rattle.sfc.proofs.writing.LayoutLaws.{length-header}

@@ -21,8 +21,8 @@ pub(crate) fn rebuild_missing(
         n as usize,
         m as usize,
         s as usize,
-        marks,
         store,
+        marks,
         scratch,
         numbers,
     );

@@ -3,7 +3,7 @@ use mathlib.Core.Path.{_≡_, refl}
 use Prim.Native.Nat.{_+_, _≤_}
 use lib.ListN.{length}
 use native.Mathlib.Omega.{arith}
-use Rattle.cauchy.proofs.ShapeLaws.{right}
+use Rattle.cauchy.proofs.ForUpperFloors.{right}
 use Rattle.sfc.proofs.writing.RunOfChunks.{recovery-chunk-made}
 use borrow.Author.Needs.{needs}
 use Rattle.sfc.proofs.writing.parts.put_recovery_chunk.Statement.{statement}
