@@ -8,14 +8,13 @@ use borrow.Author.Tests.{ltb-false}
 use lib.ListN.{length}
 use Rattle.sfc.specs.answer.Numbers.{verdict, passes}
 use Rattle.sfc.specs.format.Chunk.{payloadLength, chunkLength, lengthChecks, measureChecks, measureChunk}
-use Rattle.sfc.specs.session.Lent.{shapeWrong}
 use Rattle.sfc.specs.declared.format.header.Head.{Head}
 use Rattle.sfc.specs.declared.format.chunk.ChunkMeasured.{ChunkMeasured}
 use Rattle.sfc.specs.declared.format.chunk.ChunkMeasured.the-variants.{Length, Refused as NotMeasured}
 use Rattle.sfc.specs.declared.answer.reason.Reason.{Reason}
 use Rattle.sfc.specs.declared.answer.reason.Checked.{Checked}
 use Rattle.sfc.specs.declared.answer.reason.Checked.the-variants.{Good, Refused}
-use Rattle.sfc.proofs.answer.CheckLaws.{passed, all-passed, good-all, good-passes, wrong-fails, tells}
+use Rattle.sfc.proofs.answer.CheckLaws.{passed, all-passed, good-all, passes-good, good-passes, wrong-fails, tells}
 
 -- the verdict that an answer shows
 abbrev pub measuredSeen : ChunkMeasured → Checked
@@ -31,23 +30,20 @@ chunk-there s c v e f =
 -- ---- where the chunk at the front ends
 
 module _ (h : Head) (b : List ℕ) where
-  -- a length is told only of a chunk that is all there
-  pub measured : (k : ℕ) → measureChunk h b ≡ Length k → (k ≡ chunkLength b) × (chunkLength b ≤ length b) × (passes (lengthChecks (h .s) b) ≡ true)
+  -- one that can be stepped over is all there
+  pub front-there : passes (measureChecks h b) ≡ true → chunkLength b ≤ length b
+  front-there e = chunk-there (h .s) b Good (sym (all-passed (lengthChecks (h .s) b) (passed (measureChecks h b) (passes-good (measureChecks h b) e) .1))) refl
+
+  -- a length is told just where all checks pass
+  pub measured : (k : ℕ) → measureChunk h b ≡ Length k → (passes (measureChecks h b) ≡ true) × (k ≡ chunkLength b)
   unfolding measureChunk
   measured k e =
       let t = tells measuredSeen NotMeasured (Length (chunkLength b)) (λ q. refl) refl (measureChecks h b) Good (ap measuredSeen e) in
       let f : _≡_ {A = ChunkMeasured} (Length (chunkLength b)) (Length k) = sym (good-all NotMeasured (measureChecks h b) (Length (chunkLength b)) t) ∙ e in
-      let p = passed (measureChecks h b) t in
-      let g : verdict (lengthChecks (h .s) b) ≡ Good = all-passed (lengthChecks (h .s) b) (p .1) in
-      let q : chunkLength b ≡ k = cc in (
-        sym q,
-        chunk-there (h .s) b Good (sym g) refl,
-        good-passes (lengthChecks (h .s) b) g,
-      )
+      let q : chunkLength b ≡ k = cc in
+      (good-passes (measureChecks h b) t, sym q)
 
-  -- and where none is, of a head within the limits, 30, 31 or 32 says so
-  pub unmeasured : (r : Reason) → shapeWrong (h .size) (h .n) (h .m) (h .s) ≡ false → measureChunk h b ≡ NotMeasured r → passes (lengthChecks (h .s) b) ≡ false
+  pub unmeasured : (r : Reason) → measureChunk h b ≡ NotMeasured r → passes (measureChecks h b) ≡ false
   unfolding measureChunk
-  unmeasured r w e =
-      let t : verdict (measureChecks h b) ≡ Refused r = tells measuredSeen NotMeasured (Length (chunkLength b)) (λ q. refl) refl (measureChecks h b) (Refused r) (ap measuredSeen e) in
-      wrong-fails (lengthChecks (h .s) b) r (rw w at t)
+  unmeasured r e =
+      wrong-fails (measureChecks h b) r (tells measuredSeen NotMeasured (Length (chunkLength b)) (λ q. refl) refl (measureChecks h b) (Refused r) (ap measuredSeen e))

@@ -1,0 +1,60 @@
+// The walk over the chunks that stand one after the other in a file: each is offered to a session, whatever the offer answers.
+use sfc::ChunkMeasured;
+use sfc::Head;
+use sfc::Tallies;
+use sfc::measure_chunk;
+use sfc::offer;
+ghost use mathlib.Core.Path.{_≡_};
+ghost use Rattle.sfc.specs.session.Session.{sessionOf};
+ghost use Rattle.sfc_walk.specs.Walk.{frontLength, walkOf, walkOver};
+
+// The tallies, and the place of the first byte that belongs to no chunk.
+pub struct Walked {
+    pub tallies: Tallies,
+    pub end: usize,
+}
+
+// How many bytes the chunk at the front takes up, and 0 where there is none.
+fn length_at_front(h: Head, b: &[u8]) -> usize
+    ensures { λ r. ⌜ r ≡ frontLength h (now (b .entry)) ⌝ }
+{
+    let measured = measure_chunk(h, b);
+    match measured {
+        ChunkMeasured::Length(length) => length,
+        ChunkMeasured::Refused(_) => 0,
+    }
+}
+
+// Each turn offers one chunk. What 71, 30, 31 or 32 refuses is no chunk, and the walk ends there; there are no more chunks than
+// bytes.
+pub fn offer_chunks(
+    h: Head,
+    tallies: Tallies,
+    store: &mut [u8],
+    marks: &mut [u8],
+    bytes: &[u8],
+) -> Walked
+    ensures { λ r. ⌜ walkOf (now (store .exit)) (now (marks .exit)) (r .tallies) (r .end) ≡ walkOver h (sessionOf (now (store .entry)) (now (marks .entry)) tallies) (now (bytes .entry)) ⌝ }
+{
+    let mut counted = tallies;
+    let mut at = 0;
+    let mut most = bytes.len();
+    while 0 < most {
+        let rest = &bytes[at..];
+        let length = length_at_front(h, rest);
+        if length == 0 {
+            return Walked {
+                tallies: counted,
+                end: at,
+            };
+        }
+        let answer = offer(h, counted, store, marks, &rest[..length]);
+        counted = answer.tallies;
+        most -= 1;
+        at = at + length;
+    }
+    Walked {
+        tallies: counted,
+        end: at,
+    }
+}
