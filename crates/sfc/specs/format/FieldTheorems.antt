@@ -1,12 +1,16 @@
--- What the walk over extension fields finds: every field, in order, and all the bytes. Statements, proved in
--- proofs/format/FieldWalk.antt.
-use Prim.Native.Nat.{ℕ, _+_, _≤_}
+-- What the walk over extension fields finds: every field, in order, and all the bytes; and that a field found is where it is said
+-- to be. Statements, proved in proofs/format: FieldWalk, FieldInside.
+use Prim.Native.Nat.{ℕ, _+_, _-_, _≤_}
 use mathlib.Core.Path.{_≡_}
 use mathlib.Core.Bool.{true, false}
 use mathlib.Core.List.{List, [], _∷_, _++_}
 use lib.ListN.{length, drop}
+use Rattle.little.specs.Parts.{part}
 use Rattle.little.specs.Fields.{Bytes, le}
 use Rattle.sfc.specs.format.Extension.{joinedFields, fieldAt, wholeField, fieldsIn, leftIn, fieldsOf, leftOf, extensionWrong}
+use Rattle.sfc.specs.answer.Places.{place}
+use Rattle.sfc.specs.format.Lookup.{foundAmong, valueAmong}
+use Rattle.sfc.specs.declared.format.lookup.FieldFound.the-variants.{At}
 
 pub record FieldWalk : Type 0 where
   -- the bound means nothing: a larger one changes neither the fields nor what is left
@@ -19,3 +23,8 @@ pub record FieldWalk : Type 0 where
   -- the fields joined, and then what is left, are the bytes; so bytes that pass 21 are exactly their fields joined
   pub joined : (e : List ℕ) → Bytes e → joinedFields (fieldsOf e) ++ leftOf e ≡ e
   pub joined-exactly : (blocks flags : ℕ) (e : List ℕ) → Bytes e → extensionWrong blocks flags e ≡ false → joinedFields (fieldsOf e) ≡ e
+
+pub record FieldLookup : Type 0 where
+  -- what is found among the fields of e, whose first byte is at place `at`, is the value of the first field with that tag
+  pub value-there : (e : List ℕ) (tag at p long : ℕ) → foundAmong tag at (fieldsOf e) ≡ At (place p) long
+      → (at ≤ p) × (part e (p - at) long ≡ valueAmong tag (fieldsOf e))

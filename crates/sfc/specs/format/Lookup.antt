@@ -18,6 +18,11 @@ foundAmong tag at [] = Nothing
 foundAmong tag at (f ∷ fs) =
     cond (eqb (f .tag) tag) (At (place (at + 6)) (length (f .value))) (foundAmong tag (at + 6 + length (f .value)) fs)
 
+-- the value of that field, and none where there is no such field
+unfoldable pub valueAmong : ℕ → List Field → List ℕ
+valueAmong tag [] = []
+valueAmong tag (f ∷ fs) = cond (eqb (f .tag) tag) (f .value) (valueAmong tag fs)
+
 -- the fields after the priority list of a region, and the place of their first byte in the input
 abbrev pub extensionOf : List ℕ → List ℕ
 extensionOf r = drop (335 + 4 * le r 333 2) r
