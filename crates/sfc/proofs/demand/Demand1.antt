@@ -1,5 +1,5 @@
 -- Demand 1 (specs/demand/Demand1.antt), call by call. Assumes nothing.
-use Prim.Native.Nat.{ℕ, _*_, _≤_, _<_}
+use Prim.Native.Nat.{ℕ, _+_, _*_, _≤_, _<_}
 use mathlib.Core.Path.{_≡_, refl, sym, ap, ap₂, _∙_}
 use mathlib.Core.Bool.{Bool, true, false, cond, not, _&&_, _||_, false≢true}
 use mathlib.Core.List.{List, [], _∷_}
@@ -11,8 +11,10 @@ use Rattle.little.specs.Parts.{put}
 use Rattle.little.proofs.TestLaws.{or-false}
 use Rattle.little.specs.Runs.{any, zeros, among}
 use Rattle.sfc.specs.answer.Numbers.{Check, checked, verdict, passes, numberOf}
-use Rattle.sfc.specs.format.Header.{headerChecks, regionOf, headOf, refusedHeader, acceptedHeader, readHeader}
+use Rattle.sfc.specs.format.Header.{lengthField, headerChecks, regionOf, headOf, refusedHeader, acceptedHeader, readHeader}
+use Rattle.sfc.specs.format.Extension.{Field, fieldsOf}
 use Rattle.sfc.specs.format.Chunk.{indexOf, aloneChecks, checkChunk}
+use Rattle.sfc.specs.format.Lookup.{foundAmong, extensionOf, extensionPlace, findField}
 use Rattle.sfc.specs.answer.Places.{number, place}
 use Rattle.sfc.specs.session.Marks.{isHeld, heldCount}
 use Rattle.sfc.specs.session.Tallies.{counted, countedRefusal}
@@ -34,6 +36,8 @@ use Rattle.sfc.specs.declared.answer.reason.Checked.{Checked}
 use Rattle.sfc.specs.declared.answer.reason.Checked.the-variants.{Good, Refused}
 use Rattle.sfc.specs.declared.format.chunk.ChunkChecked.{ChunkChecked}
 use Rattle.sfc.specs.declared.format.chunk.ChunkChecked.the-variants.{Whole, Refused as NoChunk}
+use Rattle.sfc.specs.declared.format.lookup.FieldFound.{FieldFound}
+use Rattle.sfc.specs.declared.format.lookup.FieldFound.the-variants.{At, Nothing, Refused as NotShown}
 use Rattle.sfc.specs.declared.session.offer.Verdict.{Verdict}
 use Rattle.sfc.specs.declared.session.offer.Verdict.the-variants.{Fresh, Repeat, Refused as NotTaken}
 use Rattle.sfc.specs.declared.give.hand_out.HandedOut.{HandedOut}
@@ -54,7 +58,7 @@ use Rattle.sfc.proofs.session.OfferLaws.{one-offer}
 use Rattle.sfc.proofs.note.NoteLaws.{length-bounds}
 use Rattle.sfc.proofs.session.HeldLaws.{length-decode, length-content}
 use Rattle.sfc.proofs.give.GivenLaws.{lent-right, lent-output, complete-has-hash}
-use Rattle.sfc.proofs.format.FieldInside.{field-inside}
+use Rattle.sfc.proofs.format.FieldInside.{field-in-region}
 use Rattle.sfc.proofs.answer.RefusalLaws.{leaves, ends, early-told}
 
 -- ---- the verdict in each kind of answer
@@ -62,6 +66,11 @@ use Rattle.sfc.proofs.answer.RefusalLaws.{leaves, ends, early-told}
 abbrev chunkSeen : ChunkChecked → Checked
 chunkSeen (Whole i p) = Good
 chunkSeen (NoChunk r) = Refused r
+
+abbrev fieldSeen : FieldFound → Checked
+fieldSeen (At p n) = Good
+fieldSeen Nothing = Good
+fieldSeen (NotShown r) = Refused r
 
 abbrev offerSeen : Verdict → Checked
 offerSeen (Fresh i p) = Good
@@ -104,6 +113,41 @@ chunk-refused h c r e =
     number-in (λ (k : ℕ). among k (71 ∷ 30 ∷ 31 ∷ 32 ∷ 33 ∷ 34 ∷ 35 ∷ 36 ∷ 37 ∷ 38 ∷ 39 ∷ 40 ∷ []) ≡ true) (aloneChecks h c) r
     (refl, (refl, (refl, (refl, (refl, (refl, (refl, (refl, (refl, (refl, (refl, (refl, (refl, tt)))))))))))))
     (tells chunkSeen NoChunk (Whole (number (indexOf c)) (place 48)) (λ q. refl) refl (aloneChecks h c) (Refused r) (ap chunkSeen e))
+
+-- ---- a field
+
+field-good : (tag at : ℕ) (fs : List Field) → fieldSeen (foundAmong tag at fs) ≡ Good
+unfolding foundAmong
+field-good tag at [] = refl
+field-good tag at (f ∷ fs) = go (eqb (f .tag) tag) (field-good tag (at + 6 + length (f .value)) fs)
+  where
+    go : (t : Bool) → fieldSeen (foundAmong tag (at + 6 + length (f .value)) fs) ≡ Good
+        → fieldSeen (cond t (At (place (at + 6)) (length (f .value))) (foundAmong tag (at + 6 + length (f .value)) fs)) ≡ Good
+    go true e = refl
+    go false e = e
+
+module _ (b : List ℕ) (tag : ℕ) where
+  field-told : (v : Checked) → fieldSeen (findField b tag) ≡ v → verdict (headerChecks b) ≡ v
+  unfolding findField
+  field-told v e = tells fieldSeen NotShown (foundAmong tag (extensionPlace (regionOf b)) (fieldsOf (extensionOf (regionOf b)))) (λ q. refl) (field-good tag (extensionPlace (regionOf b)) (fieldsOf (extensionOf (regionOf b)))) (headerChecks b) v e
+
+  field-refused : (r : Reason) → findField b tag ≡ NotShown r
+      → OneOf r (10 ∷ 11 ∷ 12 ∷ 13 ∷ 14 ∷ 15 ∷ 16 ∷ 17 ∷ 18 ∷ 19 ∷ 20 ∷ 21 ∷ 22 ∷ 23 ∷ []) × (readHeader b .verdict ≡ Refused r)
+  unfolding readHeader any
+  field-refused r e =
+      let t = field-told (Refused r) (ap fieldSeen e) in (
+        number-in (λ (k : ℕ). among k (10 ∷ 11 ∷ 12 ∷ 13 ∷ 14 ∷ 15 ∷ 16 ∷ 17 ∷ 18 ∷ 19 ∷ 20 ∷ 21 ∷ 22 ∷ 23 ∷ []) ≡ true) (headerChecks b) r
+            (refl, (refl, (refl, (refl, (refl, (refl, (refl, (refl, (refl, (refl, (refl, (refl, (refl, (refl, (refl, tt))))))))))))))) t,
+        ap (λ (x : HeaderRead). x .verdict) (refused-all refusedHeader (headerChecks b) (acceptedHeader (headOf (regionOf b))) r t),
+      )
+
+  field-inside : (p long : ℕ) → findField b tag ≡ At (place p) long → (readHeader b .verdict ≡ Good) × (p + long ≤ lengthField b + 12) × (lengthField b + 76 ≤ length b)
+  unfolding readHeader findField
+  field-inside p long e =
+      let t = field-told Good (ap fieldSeen e) in
+      let f = sym (good-all NotShown (headerChecks b) (foundAmong tag (extensionPlace (regionOf b)) (fieldsOf (extensionOf (regionOf b)))) t) ∙ e in
+      let i = field-in-region b tag p long t f in
+      (ap (λ (x : HeaderRead). x .verdict) (good-all refusedHeader (headerChecks b) (acceptedHeader (headOf (regionOf b))) t), i .0, i .1)
 
 -- ---- an offer
 
@@ -331,6 +375,7 @@ pub demand1 : Demand1
 demand1 = record {
   header-refused = header-refused;
   chunk-refused = chunk-refused;
+  field-refused = field-refused;
   field-inside = field-inside;
   offer-numbers = offer-numbers;
   offer-uncounted = offer-uncounted;

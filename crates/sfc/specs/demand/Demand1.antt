@@ -9,7 +9,7 @@ use mathlib.Core.List.{List, [], _∷_}
 use lib.ListN.{length, drop}
 use Rattle.little.specs.Runs.{zeros, among}
 use Rattle.sfc.specs.answer.Numbers.{numberOf}
-use Rattle.sfc.specs.format.Header.{readHeader, refusedHeader}
+use Rattle.sfc.specs.format.Header.{lengthField, readHeader, refusedHeader}
 use Rattle.sfc.specs.format.Chunk.{checkChunk}
 use Rattle.sfc.specs.answer.Places.{place}
 use Rattle.sfc.specs.format.Lookup.{findField}
@@ -29,7 +29,7 @@ use Rattle.sfc.specs.declared.answer.places.BytePlace.{BytePlace}
 use Rattle.sfc.specs.declared.answer.reason.Reason.{Reason}
 use Rattle.sfc.specs.declared.answer.reason.Checked.the-variants.{Good, Refused}
 use Rattle.sfc.specs.declared.format.chunk.ChunkChecked.the-variants.{Refused as NoChunk}
-use Rattle.sfc.specs.declared.format.lookup.FieldFound.the-variants.{At}
+use Rattle.sfc.specs.declared.format.lookup.FieldFound.the-variants.{At, Refused as NotShown}
 use Rattle.sfc.specs.declared.session.offer.Verdict.the-variants.{Refused as NotTaken}
 use Rattle.sfc.specs.declared.give.hand_out.HandedOut.the-variants.{Complete, Refused as NotHandedOut}
 use Rattle.sfc.specs.declared.give.prefix.PrefixGiven.the-variants.{Unverified as PrefixUnverified, Refused as NoPrefix}
@@ -66,8 +66,12 @@ pub record Demand1 : Type 0 where
   -- A chunk by itself: 71 or 30 to 40.
   pub chunk-refused : (h : Head) (c : List ℕ) (r : Reason) → checkChunk h c ≡ NoChunk r
       → OneOf r (71 ∷ 30 ∷ 31 ∷ 32 ∷ 33 ∷ 34 ∷ 35 ∷ 36 ∷ 37 ∷ 38 ∷ 39 ∷ 40 ∷ [])
-  -- The place of a field: there is no refusal, and what is found lies in the input.
-  pub field-inside : (b : List ℕ) (tag p long : ℕ) → findField b tag ≡ At (place p) long → p + long ≤ length b
+  -- The place of a field: the header's number, 10 to 23, and nothing else; what is found lies in the region of an accepted header,
+  -- and the region, with a trailer after it, in the input.
+  pub field-refused : (b : List ℕ) (tag : ℕ) (r : Reason) → findField b tag ≡ NotShown r
+      → OneOf r (10 ∷ 11 ∷ 12 ∷ 13 ∷ 14 ∷ 15 ∷ 16 ∷ 17 ∷ 18 ∷ 19 ∷ 20 ∷ 21 ∷ 22 ∷ 23 ∷ []) × (readHeader b .verdict ≡ Refused r)
+  pub field-inside : (b : List ℕ) (tag p long : ℕ) → findField b tag ≡ At (place p) long
+      → (readHeader b .verdict ≡ Good) × (p + long ≤ lengthField b + 12) × (lengthField b + 76 ≤ length b)
   -- An offer: 71, 43 or 30 to 42. By 71 and 43 nothing changes at all; any other adds one to its own tally. Store and marks stay
   -- by every number but 41, which bars its index.
   pub offer-numbers : (h : Head) (x : Session) (c : List ℕ) (r : Reason) → verdictOf h x c ≡ NotTaken r
