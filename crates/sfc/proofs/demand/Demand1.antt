@@ -20,7 +20,8 @@ use Rattle.sfc.specs.give.HandOut.{Lent, rebuildWrong, lentAfter, conten
 use Rattle.sfc.specs.give.Block.{blockGiven, blockLent, blockChecks, blockRequest}
 use Rattle.sfc.specs.give.Prefix.{prefixBlocks, prefixOf, prefixChecks, prefixGiven}
 use Rattle.sfc.specs.note.Missing.{missing, missingChecks, listMissing}
-use Rattle.sfc.specs.note.Note.{noteFor, noteChecks, writeNote, countIn, rangesIn, bounds, readChecks, refusedNote, goodNote, readNote}
+use Rattle.sfc.specs.note.Note.{noteFor, noteChecks, writeNote, countIn, rangesIn, readChecks, refusedNote, goodNote, readNote}
+use Rattle.sfc.specs.note.Ranges.{bounds}
 use Rattle.sfc.specs.writing.Writer.{Input, fileOf, writerChecks, writeFile}
 use Rattle.sfc.specs.demand.Demand1.{OneOf, Leaves, Ends, lentLeft, Demand1}
 use Rattle.sfc.specs.declared.format.header.Head.{Head}

@@ -1,13 +1,13 @@
 -- The indices of marks that do not say held: how many there are, and a turn of the loops that judge, count and list them.
 -- Assumes nothing.
 use Prim.Native.Nat.{ℕ, zero, suc, _+_, _-_, _<_, _≤_}
-use mathlib.Core.Path.{_≡_, refl, sym, ap, ap₂, _∙_}
+use mathlib.Core.Path.{_≡_, refl, sym, ap, _∙_}
 use mathlib.Core.Bool.{Bool, true, false, cond}
 use mathlib.Core.List.{List, [], _∷_, _++_}
 use native.Mathlib.Omega.{arith}
 use borrow.Author.Tests.{eq-eqb, ne-eqb, le-leb, lt-leb, lt-ltb, le-ltb}
 use lib.ListN.{length, getD, set, take, drop, length-set}
-use lib.Seq.{length-take-le, drop-length, drop-set-lt, drop-cons, getD-set-same}
+use lib.Seq.{length-take-le, drop-length}
 use Rattle.little.specs.Parts.{put}
 use Rattle.little.proofs.PartLaws.{drop-down}
 use Rattle.little.proofs.ListLaws.{drop-set}

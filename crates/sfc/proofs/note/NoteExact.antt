@@ -16,7 +16,8 @@ use Rattle.little.proofs.PartLaws.{below-or, length-part}
 use Rattle.little.proofs.TestLaws.{or-false}
 use Rattle.little.proofs.FieldLaws.{bytes-part}
 use Rattle.sfc.specs.session.Marks.{isHeld, heldCount, marksWrong}
-use Rattle.sfc.specs.note.Missing.{Range, unheldFrom, missing, putBefore, ranges, apartFrom, maximal}
+use Rattle.sfc.specs.note.Missing.{unheldFrom, missing}
+use Rattle.sfc.specs.note.Ranges.{Range, putBefore, ranges, apartFrom, maximal}
 use Rattle.sfc.specs.note.Note.{be, bigBytes, pairsBytes, noteOf, uuidIn, countIn, pairsFrom, rangesIn, malformed}
 use Rattle.sfc.specs.note.NoteTheorems.{Small, Sayable, NoteTheorems}
 use Rattle.sfc.proofs.note.MissingLaws.{missing-none, missing-all}

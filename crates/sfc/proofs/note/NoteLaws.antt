@@ -15,8 +15,9 @@ use Rattle.little.proofs.PartLaws.{lent, length-part, length-put}
 use Rattle.little.proofs.TestLaws.{or-false}
 use Rattle.sfc.specs.session.Marks.{marksWrong}
 use Rattle.sfc.specs.answer.Numbers.{Answered}
-use Rattle.sfc.specs.note.Missing.{Range, unheldFrom, missing, ranges, apartFrom, maximal}
-use Rattle.sfc.specs.note.Note.{be, bigBytes, pairBytes, pairsBytes, noteOf, writeNote, indexPut, uuidIn, countIn, pairsFrom, rangesIn, malformed, bounds, refusedNote, readNote}
+use Rattle.sfc.specs.note.Missing.{unheldFrom, missing}
+use Rattle.sfc.specs.note.Ranges.{Range, ranges, apartFrom, maximal, bounds}
+use Rattle.sfc.specs.note.Note.{be, bigBytes, pairBytes, pairsBytes, noteOf, writeNote, indexPut, uuidIn, countIn, pairsFrom, rangesIn, malformed, refusedNote, readNote}
 use Rattle.sfc.specs.declared.answer.reason.Reason.the-variants.{Note, Lent, OutputShort}
 use Rattle.sfc.specs.declared.answer.reason.Checked.the-variants.{Good}
 use Rattle.sfc.specs.declared.note.resend.NoteRead.{NoteRead}

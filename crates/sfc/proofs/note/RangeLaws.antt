@@ -11,7 +11,8 @@ use lib.Dec.{eqb}
 use lib.ListN.{length, getD, drop}
 use lib.Seq.{drop-at}
 use Rattle.sfc.specs.session.Marks.{isHeld}
-use Rattle.sfc.specs.note.Missing.{unheldFrom, Range, putBefore, ranges}
+use Rattle.sfc.specs.note.Missing.{unheldFrom}
+use Rattle.sfc.specs.note.Ranges.{Range, putBefore, ranges}
 use Rattle.sfc.specs.note.Note.{bigBytes, pairBytes, pairsBytes, indexPut}
 use Rattle.sfc.proofs.note.MissingLaws.{unheld-same, unheld-more, unheld-none}
 use Rattle.sfc.proofs.note.BigLaws.{length-big}

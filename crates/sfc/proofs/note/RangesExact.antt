@@ -11,7 +11,7 @@ use lib.Dec.{eqb, leb}
 use Rattle.little.proofs.PartLaws.{below-or}
 use Rattle.little.proofs.TestLaws.{and-both}
 use Rattle.little.specs.Runs.{any, among, risingFrom}
-use Rattle.sfc.specs.note.Missing.{Range, putBefore, ranges, apartFrom}
+use Rattle.sfc.specs.note.Ranges.{Range, putBefore, ranges, apartFrom}
 use Rattle.sfc.specs.note.NoteTheorems.{covered, RangesExact}
 
 -- what the test of ranges says of the first of them, and of the rest

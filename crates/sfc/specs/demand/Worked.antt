@@ -8,7 +8,7 @@ use Rattle.gf16.specs.Field.{mul, inv}
 use Rattle.cauchy.specs.Code.{codeBlock}
 use Rattle.cauchy.specs.Decode.{decode}
 use Rattle.sfc.specs.format.Limits.{wantedBlocks}
-use Rattle.sfc.specs.note.Missing.{Range, ranges}
+use Rattle.sfc.specs.note.Ranges.{Range, ranges}
 use Rattle.sfc.specs.note.Note.{writeNote, readNote}
 use Rattle.sfc.specs.note.NoteTheorems.{taken}
 use Rattle.sfc.specs.declared.answer.written.Written.the-variants.{Bytes as Took}

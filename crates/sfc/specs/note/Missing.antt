@@ -1,9 +1,9 @@
--- Which data blocks are unknown, the ranges that they make, and the call that lists them (document 01, "Resend note and
--- listing"). Assumes nothing: these are definitions.
-use Prim.Native.Nat.{ℕ, suc, _+_}
-use mathlib.Core.Bool.{Bool, true, cond, _&&_}
+-- Which data blocks are unknown, and the call that lists them (document 01, "Resend note and listing"). Assumes nothing: these
+-- are definitions.
+use Prim.Native.Nat.{ℕ, suc}
+use mathlib.Core.Bool.{cond}
 use mathlib.Core.List.{List, [], _∷_}
-use lib.Dec.{ltb, leb, eqb}
+use lib.Dec.{ltb, leb}
 use lib.ListN.{length, take}
 use Rattle.little.specs.Parts.{put}
 use Rattle.sfc.specs.answer.Numbers.{Check, checked, Answered}
@@ -20,31 +20,6 @@ unheldFrom i (k ∷ ks) = cond (isHeld k) (unheldFrom (suc i) ks) (i ∷ unheldF
 -- the unknown data blocks: with N held there is none, since the code gives them all
 unfoldable pub missing : ℕ → List ℕ → List ℕ
 missing n marks = cond (leb n (heldCount marks)) [] (unheldFrom 0 (take n marks))
-
--- ---- ranges
-
-pub record Range : Type 0 where
-  pub first : ℕ
-  pub last : ℕ
-
--- a number put before ranges: it joins the first of them, or is a range of its own
-unfoldable pub putBefore : ℕ → List Range → List Range
-putBefore i [] = record { first = i; last = i } ∷ []
-putBefore i (r ∷ rs) =
-    cond (eqb (suc i) (r .first)) (record { first = i; last = r .last } ∷ rs) (record { first = i; last = i } ∷ r ∷ rs)
-
--- the ranges of a rising list of numbers
-unfoldable pub ranges : List ℕ → List Range
-ranges [] = []
-ranges (i ∷ is) = putBefore i (ranges is)
-
--- no range is empty, the first begins at `least` or later, and a number lies between each and the next
-unfoldable pub apartFrom : ℕ → List Range → Bool
-apartFrom least [] = true
-apartFrom least (r ∷ rs) = leb least (r .first) && leb (r .first) (r .last) && apartFrom (r .last + 2) rs
-
-abbrev pub maximal : List Range → Bool
-maximal rs = apartFrom 0 rs
 
 -- ---- the call
 

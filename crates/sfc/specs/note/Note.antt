@@ -9,7 +9,8 @@ use Rattle.little.specs.Parts.{part, put}
 use Rattle.little.specs.Runs.{zeros}
 use Rattle.sfc.specs.answer.Numbers.{Answered, Check, checked}
 use Rattle.sfc.specs.session.Marks.{marksWrong}
-use Rattle.sfc.specs.note.Missing.{Range, missing, ranges, maximal}
+use Rattle.sfc.specs.note.Missing.{missing}
+use Rattle.sfc.specs.note.Ranges.{Range, ranges, maximal, bounds}
 use Rattle.sfc.specs.declared.answer.reason.Reason.{Reason}
 use Rattle.sfc.specs.declared.answer.reason.Checked.the-variants.{Good, Refused}
 use Rattle.sfc.specs.declared.note.resend.NoteRead.{NoteRead}
@@ -83,11 +84,6 @@ malformed b =
     || not (eqb (be b 0 4) (19 + 8 * countIn b))
     || not (eqb (getD b 4 0) 1)
     || not (maximal (rangesIn b))
-
--- the numbers that a reader is given: first and last of each range
-unfoldable pub bounds : List Range → List ℕ
-bounds [] = []
-bounds (r ∷ rs) = r .first ∷ r .last ∷ bounds rs
 
 abbrev pub readChecks : List ℕ → List ℕ → List Check
 readChecks b out = (malformed b, 70) ∷ (ltb (length out) (2 * countIn b), 52) ∷ []

@@ -5,15 +5,16 @@ use mathlib.Core.Path.{_≡_}
 use mathlib.Core.Logic.{_↔_}
 use mathlib.Core.Bool.{Bool, true, false, not, _&&_}
 use mathlib.Core.List.{List, [], _∷_}
-use lib.Dec.{leb, ltb, eqb}
+use lib.Dec.{leb, ltb}
 use lib.ListN.{length, getD}
 use Rattle.little.specs.Parts.{put}
 use Rattle.little.specs.Fields.{Bytes}
 use Rattle.little.specs.Runs.{any, among, risingFrom}
 use Rattle.sfc.specs.session.Marks.{isHeld, heldCount, marksWrong}
 use Rattle.sfc.specs.answer.Numbers.{Answered}
-use Rattle.sfc.specs.note.Missing.{missing, Range, ranges, maximal}
-use Rattle.sfc.specs.note.Note.{noteOf, malformed, bounds, readNote}
+use Rattle.sfc.specs.note.Missing.{missing}
+use Rattle.sfc.specs.note.Ranges.{Range, ranges, maximal, bounds}
+use Rattle.sfc.specs.note.Note.{noteOf, malformed, readNote}
 use Rattle.sfc.specs.declared.note.resend.NoteRead.{NoteRead}
 use Rattle.sfc.specs.declared.answer.reason.Checked.the-variants.{Good}
 

@@ -2,110 +2,26 @@
 use crate::answer::reason::Checked;
 use crate::answer::reason::Reason;
 use crate::answer::written::Written;
+use crate::note::big::put_big;
+use crate::note::big::read_big;
 use crate::note::missing::open_marks;
+use crate::note::ranges::count_ranges;
+use crate::note::ranges::put_ranges;
 use crate::session::marks::is_marks_wrong;
 ghost use mathlib.Core.Path.{_≡_};
-ghost use mathlib.Core.Bool.{true, false};
 ghost use mathlib.Core.List.{_∷_, _++_};
 ghost use Prim.Native.Nat.{_+_, _*_, _<_, _≤_, _^_};
 ghost use lib.ListN.{length, drop};
 ghost use Rattle.little.specs.Parts.{put};
 ghost use Rattle.sfc.specs.answer.Numbers.{Answered};
-ghost use Rattle.sfc.specs.note.Missing.{unheldFrom, ranges, maximal};
-ghost use Rattle.sfc.specs.note.Note.{be, bigBytes, pairsBytes, writeNote, indexPut, uuidIn, pairsFrom, malformed, bounds, refusedNote, readNote};
+ghost use Rattle.sfc.specs.note.Ranges.{maximal, bounds};
+ghost use Rattle.sfc.specs.note.Note.{bigBytes, writeNote, uuidIn, pairsFrom, malformed, refusedNote, readNote};
 
 // With a refusal the UUID is all zeros and there are no ranges.
 pub struct NoteRead {
     pub verdict: Checked,
     pub uuid: [u8; 16],
     pub ranges: u32,
-}
-
-// The big-endian number of `width` bytes from `at` on; a byte past the end counts as 0.
-fn read_big(b: &[u8], at: usize, width: usize) -> u32
-    requires { ⌜ (width ≤ 4) × (at + 4 < 2 ^ 64) ⌝ }
-    ensures { λ r. ⌜ r ≡ be (now (b .entry)) at width ⌝ }
-{
-    let mut v: u32 = 0;
-    let mut i = 0;
-    while i < width {
-        v = v * 256 + little::byte_at(b, at + i) as u32;
-        i += 1;
-    }
-    v
-}
-
-// Stores the lowest bytes of v over all of d, the highest first.
-fn fill_big(d: &mut [u8], v: u32)
-    ensures { λ _. ⌜ now (d .exit) ≡ bigBytes (length (now (d .entry))) v ⌝ }
-{
-    let mut rest = v;
-    let mut i = d.len();
-    while 0 < i {
-        i -= 1;
-        d[i] = (rest % 256) as u8;
-        rest = rest / 256;
-    }
-}
-
-fn put_big(out: &mut [u8], at: usize, width: usize, v: u32)
-    requires { ⌜ at + width ≤ length (now out) ⌝ }
-    ensures { λ _. ⌜ now (out .exit) ≡ put (now (out .entry)) at (bigBytes width v) ⌝ }
-{
-    let end = at + width;
-    fill_big(&mut out[at..end], v);
-}
-
-// How many ranges the marks that do not say held make; `joined` tells whether one of them begins at i.
-fn count_ranges(marks: &[u8]) -> usize
-    ensures { λ r. ⌜ r ≡ length (ranges (unheldFrom 0 (now (marks .entry)))) ⌝ }
-{
-    let mut count = 0;
-    let mut joined = false;
-    let mut i = marks.len();
-    while 0 < i {
-        i -= 1;
-        let unheld = marks[i] != 1;
-        if unheld & !joined {
-            count += 1;
-        }
-        joined = unheld;
-    }
-    count
-}
-
-// Puts index i before pair k, as the first of that pair or as a pair of its own, and gives the number of its pair.
-fn put_index(out: &mut [u8], k: usize, i: u32, joined: bool) -> usize
-    requires { ⌜ (23 + 8 * k ≤ length (now out)) × (joined ≡ true → 27 + 8 * k ≤ length (now out)) × (joined ≡ false → 0 < k) ⌝ }
-    ensures { λ r. ⌜ (joined ≡ true → r ≡ k) × (joined ≡ false → r + 1 ≡ k) × (drop (23 + 8 * r) (now (out .exit)) ≡ indexPut joined i (drop (23 + 8 * k) (now (out .entry)))) ⌝ }
-{
-    if joined {
-        put_big(out, 23 + 8 * k, 4, i);
-        return k;
-    }
-    let own = k - 1;
-    put_big(out, 27 + 8 * own, 4, i);
-    put_big(out, 23 + 8 * own, 4, i);
-    own
-}
-
-// The pairs, from the last to the first: where each stands is known from their count.
-fn put_ranges(marks: &[u8], count: usize, out: &mut [u8])
-    requires { ⌜ (length (now marks) < 2 ^ 32) × (count ≡ length (ranges (unheldFrom 0 (now marks)))) × (23 + 8 * count ≤ length (now out)) ⌝ }
-    ensures { λ _. ⌜ drop 23 (now (out .exit)) ≡ pairsBytes (ranges (unheldFrom 0 (now (marks .entry)))) ++ drop (23 + 8 * count) (now (out .entry)) ⌝ }
-{
-    let mut k = count;
-    let mut joined = false;
-    let mut i = marks.len();
-    while 0 < i {
-        i -= 1;
-        if marks[i] == 1 {
-            joined = false;
-        } else {
-            k = put_index(out, k, i as u32, joined);
-            joined = true;
-        }
-    }
 }
 
 // What stands before the pairs.

@@ -1,9 +1,9 @@
--- `sfc::note::resend::put_index` meets its contract: four bytes into the pair, or a pair of its own before it. Assumes nothing.
+-- `sfc::note::ranges::put_index` meets its contract: four bytes into the pair, or a pair of its own before it. Assumes nothing.
 use native.Mathlib.Omega.{arith}
 use Rattle.sfc.proofs.note.NoteLaws.{index-joined, index-own}
 use borrow.Author.Needs.{needs}
-use Rattle.sfc.proofs.note.resend.put_index.Statement.{statement}
-use Rattle.sfc.proofs.note.resend.put_index.Tie as tie
+use Rattle.sfc.proofs.note.ranges.put_index.Statement.{statement}
+use Rattle.sfc.proofs.note.ranges.put_index.Tie as tie
 
 put-big-requires : tie.Need-put-big-requires
 put-big-requires c κs = omega (arith, c .before .before .before .pre .1 (c .before .if1 .taken))

@@ -1,9 +1,9 @@
--- `sfc::note::resend::put_ranges` meets its contract. The loop's invariant: the ranges of the marks from i on stand in the pairs from k on. Assumes nothing.
+-- `sfc::note::ranges::put_ranges` meets its contract. The loop's invariant: the ranges of the marks from i on stand in the pairs from k on. Assumes nothing.
 use native.Mathlib.Omega.{arith}
 use Rattle.sfc.proofs.note.RangeLaws.{Placing, place-start, place-skip, place-room, place-turn, place-end}
 use borrow.Author.Needs.{needs}
-use Rattle.sfc.proofs.note.resend.put_ranges.Statement.{statement}
-use Rattle.sfc.proofs.note.resend.put_ranges.Tie as tie
+use Rattle.sfc.proofs.note.ranges.put_ranges.Statement.{statement}
+use Rattle.sfc.proofs.note.ranges.put_ranges.Tie as tie
 
 abbrev Inv-loop : tie.InvT-loop
 Inv-loop marks count out₀ k₀ joined₀ i₀ out k joined i = Placing marks count out₀ out k joined i
