@@ -14,6 +14,7 @@ use Rattle.little.proofs.ListLaws.{drop-set}
 use Rattle.sfc.specs.session.Marks.{isHeld, heldCount, marksWrong}
 use Rattle.sfc.specs.answer.Numbers.{Answered}
 use Rattle.sfc.specs.note.Missing.{unheldFrom, missing, listMissing}
+use Rattle.sfc.specs.declared.format.header.Head.{Head}
 use Rattle.sfc.specs.declared.note.missing.Listed.{Listed}
 use Rattle.sfc.specs.declared.note.missing.Listed.the-variants.{Count, Refused}
 use Rattle.sfc.proofs.session.MarkLaws.{right-marks}
@@ -141,30 +142,30 @@ list-end marks count out₀ out k (suc i) h all l = absurd (omega arith)
 -- ---- 71 and 52
 
 -- a part of the data marks, behind a test that found nothing wrong
-pub among-right : (size n m s : ℕ) (marks : List ℕ) (wrong : Bool) (among : ℕ) → wrong ≡ marksWrong size n m s marks → wrong ≡ false
-    → among ≤ n → (among ≤ length marks) × (among ≤ 1024) × (length (take among marks) ≡ among)
-among-right size n m s marks wrong among e f h =
-    let r = right-marks size n m s marks (sym e ∙ f) in
+pub among-right : (h : Head) (marks : List ℕ) (wrong : Bool) (among : ℕ) → wrong ≡ marksWrong (h .size) (h .n) (h .m) (h .s) marks → wrong ≡ false
+    → among ≤ h .n → (among ≤ length marks) × (among ≤ 1024) × (length (take among marks) ≡ among)
+among-right h marks wrong among e f l =
+    let r = right-marks (h .size) (h .n) (h .m) (h .s) marks (sym e ∙ f) in
     let i : among ≤ length marks = omega (arith, r .marks-long) in
     (i, omega (arith, r .shape .n-most), length-take-le among marks i)
 
-module _ (size n m s : ℕ) (marks out : List ℕ) where
-  pub list-wrong : marksWrong size n m s marks ≡ true
-      → _≡_ {A = Answered Listed} (record { answer = Refused Lent; output = out }) (listMissing size n m s marks out)
+module _ (h : Head) (marks out : List ℕ) where
+  pub list-wrong : marksWrong (h .size) (h .n) (h .m) (h .s) marks ≡ true
+      → _≡_ {A = Answered Listed} (record { answer = Refused Lent; output = out }) (listMissing h marks out)
   unfolding listMissing
   list-wrong e = rw e
 
-  module _ (e : marksWrong size n m s marks ≡ false) (among count : ℕ) (listed : missing n marks ≡ unheldFrom 0 (take among marks))
+  module _ (e : marksWrong (h .size) (h .n) (h .m) (h .s) marks ≡ false) (among count : ℕ) (listed : missing (h .n) marks ≡ unheldFrom 0 (take among marks))
       (counted : count ≡ length (unheldFrom 0 (take among marks))) where
     pub list-short : length out < count
-        → _≡_ {A = Answered Listed} (record { answer = Refused OutputShort; output = out }) (listMissing size n m s marks out)
+        → _≡_ {A = Answered Listed} (record { answer = Refused OutputShort; output = out }) (listMissing h marks out)
     unfolding listMissing
-    list-short h = rw (e, listed, ← counted, lt-ltb _ _ h)
+    list-short l = rw (e, listed, ← counted, lt-ltb _ _ l)
 
     pub list-good : (after : List ℕ) → count ≤ length out → after ≡ put out 0 (unheldFrom 0 (take among marks))
-        → _≡_ {A = Answered Listed} (record { answer = Count count; output = after }) (listMissing size n m s marks out)
+        → _≡_ {A = Answered Listed} (record { answer = Count count; output = after }) (listMissing h marks out)
     unfolding listMissing
-    list-good after h f = rw (e, listed, f, ← counted, le-ltb _ _ h)
+    list-good after l f = rw (e, listed, f, ← counted, le-ltb _ _ l)
 
 -- the count by subtraction
 pub unheld-left : (among : ℕ) (marks : List ℕ) (held : ℕ) → among ≤ length marks → held ≡ heldCount (take among marks)

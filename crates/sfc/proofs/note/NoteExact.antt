@@ -20,6 +20,7 @@ use Rattle.sfc.specs.note.Missing.{unheldFrom, missing}
 use Rattle.sfc.specs.note.Ranges.{Range, putBefore, ranges, apartFrom, maximal}
 use Rattle.sfc.specs.note.Note.{be, bigBytes, pairsBytes, noteOf, uuidIn, countIn, pairsFrom, rangesIn, malformed}
 use Rattle.sfc.specs.note.NoteTheorems.{Small, Sayable, NoteTheorems}
+use Rattle.sfc.specs.declared.format.header.Head.{Head}
 use Rattle.sfc.proofs.note.MissingLaws.{missing-none, missing-all}
 use Rattle.sfc.proofs.session.MarkLaws.{right-marks}
 use Rattle.sfc.proofs.note.BigLaws.{be-bound, bytes-back}
@@ -142,19 +143,19 @@ missing-ends n marks h =
     (λ (p : n ≤ heldCount marks). rw (missing-none n marks p) (ends n 0 [] (omega arith)))
     (below-or (heldCount marks) n)
 
-note-written : (uuid : List ℕ) (size n m s : ℕ) (marks : List ℕ) → length uuid ≡ 16 → Bytes uuid → marksWrong size n m s marks ≡ false
-    → Sayable uuid (ranges (missing n marks)) × (length (ranges (missing n marks)) ≤ 512)
-note-written uuid size n m s marks u y e =
-    let r = right-marks size n m s marks e in
+note-written : (h : Head) (marks : List ℕ) → length (h .uuid) ≡ 16 → Bytes (h .uuid) → marksWrong (h .size) (h .n) (h .m) (h .s) marks ≡ false
+    → Sayable (h .uuid) (ranges (missing (h .n) marks)) × (length (ranges (missing (h .n) marks)) ≤ 512)
+note-written h marks u y e =
+    let r = right-marks (h .size) (h .n) (h .m) (h .s) marks e in
     let f = r .shape .n-most in
-    let z = missing-ends n marks (omega (arith, r .marks-long)) in
-    let a = ranges-exact .rise (missing n marks) (missing-rises n marks) in
-    let k = half 0 n (ranges (missing n marks)) (omega arith) a z in (
+    let z = missing-ends (h .n) marks (omega (arith, r .marks-long)) in
+    let a = ranges-exact .rise (missing (h .n) marks) (missing-rises (h .n) marks) in
+    let k = half 0 (h .n) (ranges (missing (h .n) marks)) (omega arith) a z in (
       record {
         uuid-long = u;
         uuid-bytes = y;
         rise = a;
-        indices = ends-small 0 n (ranges (missing n marks)) (omega arith) a z;
+        indices = ends-small 0 (h .n) (ranges (missing (h .n) marks)) (omega arith) a z;
         few = omega arith;
       },
       omega arith,

@@ -18,6 +18,7 @@ use Rattle.sfc.specs.answer.Numbers.{Answered}
 use Rattle.sfc.specs.note.Missing.{unheldFrom, missing}
 use Rattle.sfc.specs.note.Ranges.{Range, ranges, apartFrom, maximal, bounds}
 use Rattle.sfc.specs.note.Note.{be, bigBytes, pairBytes, pairsBytes, noteOf, writeNote, indexPut, uuidIn, countIn, pairsFrom, rangesIn, malformed, refusedNote, readNote}
+use Rattle.sfc.specs.declared.format.header.Head.{Head}
 use Rattle.sfc.specs.declared.answer.reason.Reason.the-variants.{Note, Lent, OutputShort}
 use Rattle.sfc.specs.declared.answer.reason.Checked.the-variants.{Good}
 use Rattle.sfc.specs.declared.note.resend.NoteRead.{NoteRead}
@@ -124,35 +125,35 @@ length-note uuid rs u =
 
 -- ---- the answers of the writer
 
-module _ (uuid : List ℕ) (size n m s : ℕ) (marks out : List ℕ) where
-  pub write-wrong : marksWrong size n m s marks ≡ true
-      → _≡_ {A = Answered Written} (record { answer = Unwritten Lent; output = out }) (writeNote uuid size n m s marks out)
+module _ (h : Head) (marks out : List ℕ) where
+  pub write-wrong : marksWrong (h .size) (h .n) (h .m) (h .s) marks ≡ true
+      → _≡_ {A = Answered Written} (record { answer = Unwritten Lent; output = out }) (writeNote h marks out)
   unfolding writeNote
   write-wrong e = rw e
 
-  module _ (u : length uuid ≡ 16) (e : marksWrong size n m s marks ≡ false) (among count : ℕ)
-      (listed : missing n marks ≡ unheldFrom 0 (take among marks)) (counted : count ≡ length (ranges (unheldFrom 0 (take among marks)))) where
-    long : length (noteOf uuid (ranges (unheldFrom 0 (take among marks)))) ≡ 23 + 8 * count
-    long = length-note uuid (ranges (unheldFrom 0 (take among marks))) u ∙ ap (λ (k : ℕ). 23 + 8 * k) (sym counted)
+  module _ (u : length (h .uuid) ≡ 16) (e : marksWrong (h .size) (h .n) (h .m) (h .s) marks ≡ false) (among count : ℕ)
+      (listed : missing (h .n) marks ≡ unheldFrom 0 (take among marks)) (counted : count ≡ length (ranges (unheldFrom 0 (take among marks)))) where
+    long : length (noteOf (h .uuid) (ranges (unheldFrom 0 (take among marks)))) ≡ 23 + 8 * count
+    long = length-note (h .uuid) (ranges (unheldFrom 0 (take among marks))) u ∙ ap (λ (k : ℕ). 23 + 8 * k) (sym counted)
 
     pub write-short : length out < 23 + 8 * count
-        → _≡_ {A = Answered Written} (record { answer = Unwritten OutputShort; output = out }) (writeNote uuid size n m s marks out)
+        → _≡_ {A = Answered Written} (record { answer = Unwritten OutputShort; output = out }) (writeNote h marks out)
     unfolding writeNote
-    write-short h = rw (e, listed, long, lt-ltb _ _ h)
+    write-short l = rw (e, listed, long, lt-ltb _ _ l)
 
     written : (between after : List ℕ)
         → drop 23 between ≡ pairsBytes (ranges (unheldFrom 0 (take among marks))) ++ drop (23 + 8 * count) out
-        → after ≡ bigBytes 4 (19 + 8 * count) ++ (1 ∷ (uuid ++ (bigBytes 2 count ++ drop 23 between)))
-        → after ≡ put out 0 (noteOf uuid (ranges (unheldFrom 0 (take among marks))))
+        → after ≡ bigBytes 4 (19 + 8 * count) ++ (1 ∷ (h .uuid ++ (bigBytes 2 count ++ drop 23 between)))
+        → after ≡ put out 0 (noteOf (h .uuid) (ranges (unheldFrom 0 (take among marks))))
     unfolding noteOf
     written between after eb ea = rw (ea, eb, long, counted) (simp append-assoc)
 
     pub write-good : (between after : List ℕ) → 23 + 8 * count ≤ length out
         → drop 23 between ≡ pairsBytes (ranges (unheldFrom 0 (take among marks))) ++ drop (23 + 8 * count) out
-        → after ≡ bigBytes 4 (19 + 8 * count) ++ (1 ∷ (uuid ++ (bigBytes 2 count ++ drop 23 between)))
-        → _≡_ {A = Answered Written} (record { answer = Bytes (23 + 8 * count); output = after }) (writeNote uuid size n m s marks out)
+        → after ≡ bigBytes 4 (19 + 8 * count) ++ (1 ∷ (h .uuid ++ (bigBytes 2 count ++ drop 23 between)))
+        → _≡_ {A = Answered Written} (record { answer = Bytes (23 + 8 * count); output = after }) (writeNote h marks out)
     unfolding writeNote
-    write-good between after h eb ea = rw (e, listed, written between after eb ea, long, le-ltb _ _ h)
+    write-good between after l eb ea = rw (e, listed, written between after eb ea, long, le-ltb _ _ l)
 
 -- ---- judging pairs
 

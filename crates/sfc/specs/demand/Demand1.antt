@@ -93,15 +93,15 @@ pub record Demand1 : Type 0 where
       → Leaves r (71 ∷ 52 ∷ []) out (prefixGiven h store marks out .output)
   pub prefix-ends : (h : Head) (store marks out : List ℕ) (i : BlockNumber) (p : ℕ) → prefixGiven h store marks out .answer ≡ Unverified i (place p)
       → Ends p out (prefixGiven h store marks out .output)
-  pub missing-refused : (size n m s : ℕ) (marks out : List ℕ) (r : Reason) → listMissing size n m s marks out .answer ≡ NotListed r
-      → Leaves r (71 ∷ 52 ∷ []) out (listMissing size n m s marks out .output)
-  pub missing-ends : (size n m s : ℕ) (marks out : List ℕ) (k : ℕ) → listMissing size n m s marks out .answer ≡ Count k
-      → Ends k out (listMissing size n m s marks out .output)
+  pub missing-refused : (h : Head) (marks out : List ℕ) (r : Reason) → listMissing h marks out .answer ≡ NotListed r
+      → Leaves r (71 ∷ 52 ∷ []) out (listMissing h marks out .output)
+  pub missing-ends : (h : Head) (marks out : List ℕ) (k : ℕ) → listMissing h marks out .answer ≡ Count k
+      → Ends k out (listMissing h marks out .output)
   -- A note: 71 or 52 to write one, 70 or 52 to read one, and then of the UUID nothing but zeros.
-  pub note-refused : (uuid : List ℕ) (size n m s : ℕ) (marks out : List ℕ) (r : Reason) → writeNote uuid size n m s marks out .answer ≡ NotWritten r
-      → Leaves r (71 ∷ 52 ∷ []) out (writeNote uuid size n m s marks out .output)
-  pub note-ends : (uuid : List ℕ) (size n m s : ℕ) (marks out : List ℕ) (k : ℕ) → writeNote uuid size n m s marks out .answer ≡ Took k
-      → Ends k out (writeNote uuid size n m s marks out .output)
+  pub note-refused : (h : Head) (marks out : List ℕ) (r : Reason) → writeNote h marks out .answer ≡ NotWritten r
+      → Leaves r (71 ∷ 52 ∷ []) out (writeNote h marks out .output)
+  pub note-ends : (h : Head) (marks out : List ℕ) (k : ℕ) → writeNote h marks out .answer ≡ Took k
+      → Ends k out (writeNote h marks out .output)
   pub reading-refused : (b out : List ℕ) (r : Reason) → readNote b out .answer .verdict ≡ Refused r
       → Leaves r (70 ∷ 52 ∷ []) out (readNote b out .output) × (readNote b out .answer ≡ refusedNote r)
   pub reading-ends : (b out : List ℕ) → readNote b out .answer .verdict ≡ Good → Ends (2 * readNote b out .answer .ranges) out (readNote b out .output)

@@ -8,6 +8,7 @@ use lib.ListN.{length, take}
 use Rattle.little.specs.Parts.{put}
 use Rattle.sfc.specs.answer.Numbers.{Check, checked, Answered}
 use Rattle.sfc.specs.session.Marks.{isHeld, heldCount, marksWrong}
+use Rattle.sfc.specs.declared.format.header.Head.{Head}
 use Rattle.sfc.specs.declared.answer.reason.Reason.{Reason}
 use Rattle.sfc.specs.declared.note.missing.Listed.{Listed}
 use Rattle.sfc.specs.declared.note.missing.Listed.the-variants.{Count, Refused}
@@ -23,12 +24,12 @@ missing n marks = cond (leb n (heldCount marks)) [] (unheldFrom 0 (take n marks)
 
 -- ---- the call
 
-abbrev pub missingChecks : ℕ → ℕ → ℕ → ℕ → List ℕ → List ℕ → List Check
-missingChecks size n m s marks out =
-    (marksWrong size n m s marks, 71) ∷ (ltb (length out) (length (missing n marks)), 52) ∷ []
+abbrev pub missingChecks : Head → List ℕ → List ℕ → List Check
+missingChecks h marks out =
+    (marksWrong (h .size) (h .n) (h .m) (h .s) marks, 71) ∷ (ltb (length out) (length (missing (h .n) marks)), 52) ∷ []
 
-unfoldable pub listMissing : ℕ → ℕ → ℕ → ℕ → List ℕ → List ℕ → Answered Listed
-listMissing size n m s marks out = record {
-  answer = checked (missingChecks size n m s marks out) Refused (Count (length (missing n marks)));
-  output = checked (missingChecks size n m s marks out) (λ (r : Reason). out) (put out 0 (missing n marks));
+unfoldable pub listMissing : Head → List ℕ → List ℕ → Answered Listed
+listMissing h marks out = record {
+  answer = checked (missingChecks h marks out) Refused (Count (length (missing (h .n) marks)));
+  output = checked (missingChecks h marks out) (λ (r : Reason). out) (put out 0 (missing (h .n) marks));
 }

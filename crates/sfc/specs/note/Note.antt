@@ -11,6 +11,7 @@ use Rattle.sfc.specs.answer.Numbers.{Answered, Check, checked}
 use Rattle.sfc.specs.session.Marks.{marksWrong}
 use Rattle.sfc.specs.note.Missing.{missing}
 use Rattle.sfc.specs.note.Ranges.{Range, ranges, maximal, bounds}
+use Rattle.sfc.specs.declared.format.header.Head.{Head}
 use Rattle.sfc.specs.declared.answer.reason.Reason.{Reason}
 use Rattle.sfc.specs.declared.answer.reason.Checked.the-variants.{Good, Refused}
 use Rattle.sfc.specs.declared.note.resend.NoteRead.{NoteRead}
@@ -44,17 +45,17 @@ noteOf uuid rs = bigBytes 4 (19 + 8 * length rs) ++ (1 ∷ (uuid ++ (bigBytes 2 
 
 -- ---- writing
 
-abbrev pub noteFor : List ℕ → ℕ → List ℕ → List ℕ
-noteFor uuid n marks = noteOf uuid (ranges (missing n marks))
+abbrev pub noteFor : Head → List ℕ → List ℕ
+noteFor h marks = noteOf (h .uuid) (ranges (missing (h .n) marks))
 
-abbrev pub noteChecks : List ℕ → ℕ → ℕ → ℕ → ℕ → List ℕ → List ℕ → List Check
-noteChecks uuid size n m s marks out =
-    (marksWrong size n m s marks, 71) ∷ (ltb (length out) (length (noteFor uuid n marks)), 52) ∷ []
+abbrev pub noteChecks : Head → List ℕ → List ℕ → List Check
+noteChecks h marks out =
+    (marksWrong (h .size) (h .n) (h .m) (h .s) marks, 71) ∷ (ltb (length out) (length (noteFor h marks)), 52) ∷ []
 
-unfoldable pub writeNote : List ℕ → ℕ → ℕ → ℕ → ℕ → List ℕ → List ℕ → Answered Written
-writeNote uuid size n m s marks out = record {
-  answer = checked (noteChecks uuid size n m s marks out) Unwritten (Bytes (length (noteFor uuid n marks)));
-  output = checked (noteChecks uuid size n m s marks out) (λ (r : Reason). out) (put out 0 (noteFor uuid n marks));
+unfoldable pub writeNote : Head → List ℕ → List ℕ → Answered Written
+writeNote h marks out = record {
+  answer = checked (noteChecks h marks out) Unwritten (Bytes (length (noteFor h marks)));
+  output = checked (noteChecks h marks out) (λ (r : Reason). out) (put out 0 (noteFor h marks));
 }
 
 -- what stands from a pair on once index i is put before it: it joins that pair, or is a pair of its own

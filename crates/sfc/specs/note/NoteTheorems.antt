@@ -15,6 +15,7 @@ use Rattle.sfc.specs.answer.Numbers.{Answered}
 use Rattle.sfc.specs.note.Missing.{missing}
 use Rattle.sfc.specs.note.Ranges.{Range, ranges, maximal, bounds}
 use Rattle.sfc.specs.note.Note.{noteOf, malformed, readNote}
+use Rattle.sfc.specs.declared.format.header.Head.{Head}
 use Rattle.sfc.specs.declared.note.resend.NoteRead.{NoteRead}
 use Rattle.sfc.specs.declared.answer.reason.Checked.the-variants.{Good}
 
@@ -58,5 +59,5 @@ pub record NoteTheorems : Type 0 where
   pub note-exact : (b : List ℕ) → Bytes b
       → (malformed b ≡ false) ↔ ((uuid : List ℕ) × (rs : List Range) × (Sayable uuid rs) × (b ≡ noteOf uuid rs))
   -- what the writer says can be said, in at most 512 ranges
-  pub note-written : (uuid : List ℕ) (size n m s : ℕ) (marks : List ℕ) → length uuid ≡ 16 → Bytes uuid → marksWrong size n m s marks ≡ false
-      → Sayable uuid (ranges (missing n marks)) × (length (ranges (missing n marks)) ≤ 512)
+  pub note-written : (h : Head) (marks : List ℕ) → length (h .uuid) ≡ 16 → Bytes (h .uuid) → marksWrong (h .size) (h .n) (h .m) (h .s) marks ≡ false
+      → Sayable (h .uuid) (ranges (missing (h .n) marks)) × (length (ranges (missing (h .n) marks)) ≤ 512)

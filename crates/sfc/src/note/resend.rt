@@ -2,6 +2,7 @@
 use crate::answer::reason::Checked;
 use crate::answer::reason::Reason;
 use crate::answer::written::Written;
+use crate::format::header::Head;
 use crate::note::big::put_big;
 use crate::note::big::read_big;
 use crate::note::missing::open_marks;
@@ -36,27 +37,20 @@ fn put_start(uuid: [u8; 16], count: u32, out: &mut [u8])
 }
 
 // The note of a session: its UUID and the ranges of its unknown data indices.
-pub fn write_note(
-    uuid: [u8; 16],
-    size: u64,
-    n: u32,
-    m: u32,
-    s: u32,
-    marks: &[u8],
-    out: &mut [u8],
-) -> Written
-    ensures { λ r. ⌜ _≡_ {A = Answered Written} (record { answer = r; output = now (out .exit) }) (writeNote uuid size n m s (now (marks .entry)) (now (out .entry))) ⌝ }
+pub fn write_note(h: Head, marks: &[u8], out: &mut [u8]) -> Written
+    ensures { λ r. ⌜ _≡_ {A = Answered Written} (record { answer = r; output = now (out .exit) }) (writeNote h (now (marks .entry)) (now (out .entry))) ⌝ }
 {
-    if is_marks_wrong(size, n, m, s, marks) {
+    if is_marks_wrong(h.size, h.n, h.m, h.s, marks) {
         return Written::Refused(Reason::Lent);
     }
-    let among = open_marks(n, marks);
+    let among = open_marks(h.n, marks);
     let count = count_ranges(&marks[..among]);
     let length = 23 + 8 * count;
     if out.len() < length {
         return Written::Refused(Reason::OutputShort);
     }
     put_ranges(&marks[..among], count, out);
+    let uuid = h.uuid;
     put_start(uuid, count as u32, out);
     Written::Bytes(length)
 }
