@@ -21,7 +21,7 @@ use Rattle.sfc.specs.give.Block.{blockGiven, blockLent, blockChecks, blo
 use Rattle.sfc.specs.give.Prefix.{prefixBlocks, prefixOf, prefixChecks, prefixGiven}
 use Rattle.sfc.specs.note.Missing.{missing, missingChecks, listMissing}
 use Rattle.sfc.specs.note.Note.{noteFor, noteChecks, writeNote, countIn, rangesIn, readChecks, refusedNote, goodNote, readNote}
-use Rattle.sfc.specs.note.Ranges.{bounds}
+use Rattle.sfc.specs.note.Ranges.{bounds, boundsFor, rangeChecks, listRanges}
 use Rattle.sfc.specs.writing.Writer.{Input, fileOf, writerChecks, writeFile}
 use Rattle.sfc.specs.demand.Demand1.{OneOf, Leaves, Ends, lentLeft, Demand1}
 use Rattle.sfc.specs.declared.format.header.Head.{Head}
@@ -220,7 +220,7 @@ module _ (h : Head) (store marks : List ℕ) (j : ℕ) (l : Lent) where
   block-scratch e i o =
       wiped (passes (blockLent h store marks j l)) l _ (h .m * h .s) 1024 (rw (e, lt-leb (h .n) j i, le-ltb (length (l .output)) (h .s) o)) (lengths h store marks l e)
 
--- ---- prefix and missing list
+-- ---- prefix, missing list and ranges
 
 module _ (h : Head) (store marks out : List ℕ) where
   prefix-told : (v : Checked) → givenSeen (prefixGiven h store marks out .answer) ≡ v → verdict (prefixChecks h store marks out) ≡ v
@@ -259,6 +259,23 @@ module _ (h : Head) (marks out : List ℕ) where
       let f : _≡_ {A = Listed} (Count (length (missing (h .n) marks))) (Count k) = sym (good-all NotListed cs _ t) ∙ e in
       let q : length (missing (h .n) marks) ≡ k = cc in
       ends cs out (missing (h .n) marks) k t q (omega (arith, ltb-false (length out) (length (missing (h .n) marks)) (passed cs t .1 .0)))
+
+  ranges-told : (v : Checked) → listedSeen (listRanges h marks out .answer) ≡ v → verdict (rangeChecks h marks out) ≡ v
+  unfolding listRanges
+  ranges-told v e = tells listedSeen NotListed (Count (length (boundsFor h marks))) (λ q. refl) refl (rangeChecks h marks out) v e
+
+  ranges-refused : (r : Reason) → listRanges h marks out .answer ≡ NotListed r → Leaves r (71 ∷ 52 ∷ []) out (listRanges h marks out .output)
+  unfolding listRanges any
+  ranges-refused r e = leaves (rangeChecks h marks out) r (71 ∷ 52 ∷ []) out (put out 0 (boundsFor h marks)) (refl, (refl, tt)) (ranges-told (Refused r) (ap listedSeen e))
+
+  ranges-ends : (k : ℕ) → listRanges h marks out .answer ≡ Count k → Ends k out (listRanges h marks out .output)
+  unfolding listRanges
+  ranges-ends k e =
+      let cs : List Check = rangeChecks h marks out in
+      let t = ranges-told Good (ap listedSeen e) in
+      let f : _≡_ {A = Listed} (Count (length (boundsFor h marks))) (Count k) = sym (good-all NotListed cs _ t) ∙ e in
+      let q : length (boundsFor h marks) ≡ k = cc in
+      ends cs out (boundsFor h marks) k t q (omega (arith, ltb-false (length out) (length (boundsFor h marks)) (passed cs t .1 .0)))
 
 -- ---- notes
 
@@ -339,6 +356,8 @@ demand1 = record {
   prefix-ends = prefix-ends;
   missing-refused = missing-refused;
   missing-ends = missing-ends;
+  ranges-refused = ranges-refused;
+  ranges-ends = ranges-ends;
   note-refused = note-refused;
   note-ends = note-ends;
   reading-refused = reading-refused;

@@ -6,10 +6,10 @@ use native.Mathlib.Nat.{le-trans, pow-le-pow-right, pow-suc}
 use native.Mathlib.Omega.{arith}
 use lib.Dec.{lit<}
 use lib.ListN.{length, getD, set, take, drop, length-append, length-drop}
-use lib.Seq.{getD-append-add, getD-drop, take-suc, append-snoc, drop-length}
+use lib.Seq.{getD-append-add, getD-drop, take-suc, append-snoc, drop-length, length-take-le, drop-at, drop-drop}
 use Rattle.little.specs.Parts.{part, put}
 use Rattle.little.specs.Fields.{Bytes}
-use Rattle.little.proofs.PartLaws.{lent, length-part}
+use Rattle.little.proofs.PartLaws.{lent, length-part, length-put}
 use Rattle.sfc.specs.note.Note.{be, bigBytes}
 use Rattle.little.proofs.ListLaws.{drop-set}
 
@@ -107,3 +107,19 @@ put-filled xs ys at width v n h en ey =
     let l : length (part xs at n) ≡ width = ap (λ (k : ℕ). length (part xs at k)) e ∙ length-part xs at width h in
     let y : ys ≡ bigBytes width v = ey ∙ ap (λ (k : ℕ). bigBytes k v) l in
     lent xs ys at n (ap length y ∙ length-big width v ∙ sym e) ∙ ap (λ (b : List ℕ). put xs at b) y
+
+-- ---- an output, from a place on
+
+pub drop-put : (xs : List ℕ) (at : ℕ) (ys : List ℕ) → at ≤ length xs → drop at (put xs at ys) ≡ ys ++ drop (at + length ys) xs
+drop-put xs at ys h =
+    drop-at (take at xs) (ys ++ drop (length ys) (drop at xs)) at (length-take-le at xs h)
+    ∙ ap (λ (r : List ℕ). ys ++ r) (drop-drop (length ys) at xs)
+
+pub drop-big : (xs xs′ : List ℕ) (at width v next : ℕ) → at + width ≡ next → next ≤ length xs → xs′ ≡ put xs at (bigBytes width v)
+    → drop at xs′ ≡ bigBytes width v ++ drop next xs
+drop-big xs xs′ at width v next e h f =
+    let g : at + length (bigBytes width v) ≡ next = omega (arith, length-big width v) in
+    ap (drop at) f ∙ drop-put xs at (bigBytes width v) (omega arith) ∙ ap (λ (n : ℕ). bigBytes width v ++ drop n xs) g
+
+pub length-put-big : (xs xs′ : List ℕ) (at width v : ℕ) → at + width ≤ length xs → xs′ ≡ put xs at (bigBytes width v) → length xs′ ≡ length xs
+length-put-big xs xs′ at width v h f = ap length f ∙ length-put xs at (bigBytes width v) (omega (arith, length-big width v))

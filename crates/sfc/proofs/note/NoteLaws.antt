@@ -9,7 +9,6 @@ use native.Mathlib.Omega.{arith}
 use borrow.Author.Tests.{lt-ltb, le-ltb, eqb-true, not-false}
 use lib.Dec.{eqb, leb}
 use lib.ListN.{length, getD, set, take, drop, length-append, length-set}
-use lib.Seq.{length-take-le, drop-at, drop-drop}
 use Rattle.little.specs.Parts.{part, put}
 use Rattle.little.proofs.PartLaws.{lent, length-part, length-put}
 use Rattle.little.proofs.TestLaws.{or-false}
@@ -17,7 +16,7 @@ use Rattle.sfc.specs.session.Marks.{marksWrong}
 use Rattle.sfc.specs.answer.Numbers.{Answered}
 use Rattle.sfc.specs.note.Missing.{unheldFrom, missing}
 use Rattle.sfc.specs.note.Ranges.{Range, ranges, apartFrom, maximal, bounds}
-use Rattle.sfc.specs.note.Note.{be, bigBytes, pairBytes, pairsBytes, noteOf, writeNote, indexPut, uuidIn, countIn, pairsFrom, rangesIn, malformed, refusedNote, readNote}
+use Rattle.sfc.specs.note.Note.{be, bigBytes, pairBytes, pairsBytes, noteOf, writeNote, uuidIn, countIn, pairsFrom, rangesIn, malformed, refusedNote, readNote}
 use Rattle.sfc.specs.declared.format.header.Head.{Head}
 use Rattle.sfc.specs.declared.answer.reason.Reason.the-variants.{Note, Lent, OutputShort}
 use Rattle.sfc.specs.declared.answer.reason.Checked.the-variants.{Good}
@@ -25,49 +24,8 @@ use Rattle.sfc.specs.declared.note.resend.NoteRead.{NoteRead}
 use Rattle.sfc.specs.declared.answer.written.Written.{Written}
 use Rattle.sfc.specs.declared.answer.written.Written.the-variants.{Bytes, Refused as Unwritten}
 use Rattle.little.proofs.ListLaws.{copied, drop-set}
-use Rattle.sfc.proofs.note.BigLaws.{length-big}
-
--- ---- an output, from a place on
-
-drop-put : (xs : List ℕ) (at : ℕ) (ys : List ℕ) → at ≤ length xs → drop at (put xs at ys) ≡ ys ++ drop (at + length ys) xs
-drop-put xs at ys h =
-    drop-at (take at xs) (ys ++ drop (length ys) (drop at xs)) at (length-take-le at xs h)
-    ∙ ap (λ (r : List ℕ). ys ++ r) (drop-drop (length ys) at xs)
-
-drop-big : (xs xs′ : List ℕ) (at width v next : ℕ) → at + width ≡ next → next ≤ length xs → xs′ ≡ put xs at (bigBytes width v)
-    → drop at xs′ ≡ bigBytes width v ++ drop next xs
-drop-big xs xs′ at width v next e h f =
-    let g : at + length (bigBytes width v) ≡ next = omega (arith, length-big width v) in
-    ap (drop at) f ∙ drop-put xs at (bigBytes width v) (omega arith) ∙ ap (λ (n : ℕ). bigBytes width v ++ drop n xs) g
-
-length-put-big : (xs xs′ : List ℕ) (at width v : ℕ) → at + width ≤ length xs → xs′ ≡ put xs at (bigBytes width v) → length xs′ ≡ length xs
-length-put-big xs xs′ at width v h f = ap length f ∙ length-put xs at (bigBytes width v) (omega (arith, length-big width v))
-
--- ---- an index before a pair
-
-abbrev IndexPut : List ℕ → List ℕ → ℕ → ℕ → ℕ → Bool → Type 0
-IndexPut out after k r i joined =
-    (joined ≡ true → r ≡ k) × (joined ≡ false → r + 1 ≡ k) × (drop (23 + 8 * r) after ≡ indexPut joined i (drop (23 + 8 * k) out))
-
-pub index-joined : (out after : List ℕ) (k i : ℕ) (joined : Bool) → joined ≡ true → 27 + 8 * k ≤ length out
-    → after ≡ put out (23 + 8 * k) (bigBytes 4 i) → IndexPut out after k k i joined
-unfolding indexPut
-index-joined out after k i joined j h e = (
-  λ _. refl,
-  λ f. absurd (let z : _≡_ {A = ℕ} 0 1 = cc in omega arith),
-  rw j (drop-big out after (23 + 8 * k) 4 i (23 + 8 * k + 4) refl (omega arith) e ∙ ap (λ (r : List ℕ). bigBytes 4 i ++ r) (sym (drop-drop 4 (23 + 8 * k) out))),
-)
-
-pub index-own : (out between after : List ℕ) (k r i : ℕ) (joined : Bool) → joined ≡ false → r + 1 ≡ k → 23 + 8 * k ≤ length out
-    → between ≡ put out (27 + 8 * r) (bigBytes 4 i) → after ≡ put between (23 + 8 * r) (bigBytes 4 i) → IndexPut out after k r i joined
-unfolding indexPut
-index-own out between after k r i joined j f h eb ea =
-    let l = length-put-big out between (27 + 8 * r) 4 i (omega arith) eb in (
-      λ g. absurd (let z : _≡_ {A = ℕ} 0 1 = cc in omega arith),
-      λ _. f,
-      rw j (drop-big between after (23 + 8 * r) 4 i (27 + 8 * r) (omega arith) (omega arith) ea
-          ∙ ap (λ (x : List ℕ). bigBytes 4 i ++ x) (drop-big out between (27 + 8 * r) 4 i (23 + 8 * k) (omega arith) h eb)),
-    )
+use Rattle.sfc.proofs.note.BigLaws.{length-big, drop-put, drop-big, length-put-big}
+use Rattle.sfc.proofs.note.PairLaws.{bounds-long}
 
 -- ---- the start of a note
 
@@ -228,11 +186,6 @@ copy-turn b count out₀ out k first last h room l ef el =
       long = length-set (set out (2 * (k - 1) + 1) last) (2 * (k - 1)) first ∙ ls ∙ lo;
       behind = x ∙ ap (λ (t : List ℕ). first ∷ t) (y ∙ ap (λ (t : List ℕ). last ∷ t) z) ∙ (rw (n, p, q, ef, el) refl);
     }
-
-pub bounds-long : (rs : List Range) → length (bounds rs) ≡ 2 * length rs
-unfolding bounds
-bounds-long [] = refl
-bounds-long (r ∷ rs) = omega (arith, bounds-long rs)
 
 pub length-pairsFrom : (b : List ℕ) (at k : ℕ) → length (pairsFrom b at k) ≡ k
 unfolding pairsFrom

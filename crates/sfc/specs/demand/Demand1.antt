@@ -19,6 +19,7 @@ use Rattle.sfc.specs.give.HandOut.{Lent, rebuildWrong, lentAfter, handOu
 use Rattle.sfc.specs.give.Block.{blockRequest}
 use Rattle.sfc.specs.give.Prefix.{prefixGiven}
 use Rattle.sfc.specs.note.Missing.{listMissing}
+use Rattle.sfc.specs.note.Ranges.{listRanges}
 use Rattle.sfc.specs.note.Note.{writeNote, refusedNote, readNote}
 use Rattle.sfc.specs.writing.Writer.{Input, writeFile}
 use Rattle.sfc.specs.declared.format.header.Head.{Head}
@@ -88,7 +89,7 @@ pub record Demand1 : Type 0 where
       → blockRequest h store marks j l .answer ≡ Unverified i p → Ends (h .s) (l .output) (blockRequest h store marks j l .lent .output)
   pub block-scratch : (h : Head) (store marks : List ℕ) (j : ℕ) (l : Lent) → rebuildWrong h store marks l ≡ false → j < h .n → h .s ≤ length (l .output)
       → (blockRequest h store marks j l .lent .scratch ≡ zeros (h .m * h .s)) × (blockRequest h store marks j l .lent .numbers ≡ zeros 1024)
-  -- The prefix and the missing list: 71 or 52.
+  -- The prefix, the missing list and its ranges: 71 or 52.
   pub prefix-refused : (h : Head) (store marks out : List ℕ) (r : Reason) → prefixGiven h store marks out .answer ≡ NotGiven r
       → Leaves r (71 ∷ 52 ∷ []) out (prefixGiven h store marks out .output)
   pub prefix-ends : (h : Head) (store marks out : List ℕ) (i : BlockNumber) (p : ℕ) → prefixGiven h store marks out .answer ≡ Unverified i (place p)
@@ -97,6 +98,10 @@ pub record Demand1 : Type 0 where
       → Leaves r (71 ∷ 52 ∷ []) out (listMissing h marks out .output)
   pub missing-ends : (h : Head) (marks out : List ℕ) (k : ℕ) → listMissing h marks out .answer ≡ Count k
       → Ends k out (listMissing h marks out .output)
+  pub ranges-refused : (h : Head) (marks out : List ℕ) (r : Reason) → listRanges h marks out .answer ≡ NotListed r
+      → Leaves r (71 ∷ 52 ∷ []) out (listRanges h marks out .output)
+  pub ranges-ends : (h : Head) (marks out : List ℕ) (k : ℕ) → listRanges h marks out .answer ≡ Count k
+      → Ends k out (listRanges h marks out .output)
   -- A note: 71 or 52 to write one, 70 or 52 to read one, and then of the UUID nothing but zeros.
   pub note-refused : (h : Head) (marks out : List ℕ) (r : Reason) → writeNote h marks out .answer ≡ NotWritten r
       → Leaves r (71 ∷ 52 ∷ []) out (writeNote h marks out .output)

@@ -1,10 +1,10 @@
 -- The resend note: its bytes, writing one and reading one (document 01, "Resend note and listing"). Assumes nothing: these
 -- are definitions.
 use Prim.Native.Nat.{ℕ, zero, suc, _+_, _*_, _/_, _%_}
-use mathlib.Core.Bool.{Bool, cond, not, _||_}
+use mathlib.Core.Bool.{Bool, not, _||_}
 use mathlib.Core.List.{List, [], _∷_, _++_}
 use lib.Dec.{ltb, eqb}
-use lib.ListN.{length, getD, drop}
+use lib.ListN.{length, getD}
 use Rattle.little.specs.Parts.{part, put}
 use Rattle.little.specs.Runs.{zeros}
 use Rattle.sfc.specs.answer.Numbers.{Answered, Check, checked}
@@ -57,10 +57,6 @@ writeNote h marks out = record {
   answer = checked (noteChecks h marks out) Unwritten (Bytes (length (noteFor h marks)));
   output = checked (noteChecks h marks out) (λ (r : Reason). out) (put out 0 (noteFor h marks));
 }
-
--- what stands from a pair on once index i is put before it: it joins that pair, or is a pair of its own
-unfoldable pub indexPut : Bool → ℕ → List ℕ → List ℕ
-indexPut joined i b = cond joined (bigBytes 4 i ++ drop 4 b) (bigBytes 4 i ++ (bigBytes 4 i ++ b))
 
 -- ---- reading
 

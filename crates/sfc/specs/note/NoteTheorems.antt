@@ -1,6 +1,6 @@
 -- What is proved of the missing list, of ranges and of notes (document 01, "Resend note and listing"; minutes, demand 3):
--- statements. Proved in proofs/note/MissingExact, RangesExact, NoteBack and NoteExact.
-use Prim.Native.Nat.{ℕ, _*_, _^_, _≤_, _<_}
+-- statements. Proved in proofs/note/MissingExact, RangesExact, RangesFew, NoteBack and NoteExact.
+use Prim.Native.Nat.{ℕ, _+_, _*_, _^_, _≤_, _<_}
 use mathlib.Core.Path.{_≡_}
 use mathlib.Core.Logic.{_↔_}
 use mathlib.Core.Bool.{Bool, true, false, not, _&&_}
@@ -33,6 +33,13 @@ pub record RangesExact : Type 0 where
   pub rise : (is : List ℕ) → risingFrom 0 is ≡ true → maximal (ranges is) ≡ true
   pub cover : (is : List ℕ) → risingFrom 0 is ≡ true → (i : ℕ) → covered i (ranges is) ≡ among i is
   pub only-one : (rs qs : List Range) → maximal rs ≡ true → maximal qs ≡ true → ((i : ℕ) → covered i rs ≡ covered i qs) → rs ≡ qs
+
+-- how much to lend for the ranges of n data blocks: two numbers each, and at most half of n + 1 of them; so 1,024 numbers are
+-- enough for 1,024 blocks
+pub record RangesFew : Type 0 where
+  pub bounds-long : (rs : List Range) → length (bounds rs) ≡ 2 * length rs
+  pub ranges-few : (n : ℕ) (marks : List ℕ) → 2 * length (ranges (missing n marks)) ≤ n + 1
+  pub bounds-few : (n : ℕ) (marks : List ℕ) → n ≤ 1024 → length (bounds (ranges (missing n marks))) ≤ 1024
 
 -- every index has 32 bits
 abbrev pub Small : List Range → Type 0

@@ -3,7 +3,16 @@
 use Prim.Native.Nat.{ℕ, suc, _+_}
 use mathlib.Core.Bool.{Bool, true, cond, _&&_}
 use mathlib.Core.List.{List, [], _∷_}
-use lib.Dec.{leb, eqb}
+use lib.Dec.{ltb, leb, eqb}
+use lib.ListN.{length}
+use Rattle.little.specs.Parts.{put}
+use Rattle.sfc.specs.answer.Numbers.{Check, checked, Answered}
+use Rattle.sfc.specs.session.Marks.{marksWrong}
+use Rattle.sfc.specs.note.Missing.{missing}
+use Rattle.sfc.specs.declared.format.header.Head.{Head}
+use Rattle.sfc.specs.declared.answer.reason.Reason.{Reason}
+use Rattle.sfc.specs.declared.note.missing.Listed.{Listed}
+use Rattle.sfc.specs.declared.note.missing.Listed.the-variants.{Count, Refused}
 
 pub record Range : Type 0 where
   pub first : ℕ
@@ -32,3 +41,18 @@ maximal rs = apartFrom 0 rs
 unfoldable pub bounds : List Range → List ℕ
 bounds [] = []
 bounds (r ∷ rs) = r .first ∷ r .last ∷ bounds rs
+
+-- ---- the call
+
+abbrev pub boundsFor : Head → List ℕ → List ℕ
+boundsFor h marks = bounds (ranges (missing (h .n) marks))
+
+abbrev pub rangeChecks : Head → List ℕ → List ℕ → List Check
+rangeChecks h marks out =
+    (marksWrong (h .size) (h .n) (h .m) (h .s) marks, 71) ∷ (ltb (length out) (length (boundsFor h marks)), 52) ∷ []
+
+unfoldable pub listRanges : Head → List ℕ → List ℕ → Answered Listed
+listRanges h marks out = record {
+  answer = checked (rangeChecks h marks out) Refused (Count (length (boundsFor h marks)));
+  output = checked (rangeChecks h marks out) (λ (r : Reason). out) (put out 0 (boundsFor h marks));
+}

@@ -7,7 +7,7 @@ use crate::note::big::put_big;
 use crate::note::big::read_big;
 use crate::note::missing::open_marks;
 use crate::note::ranges::count_ranges;
-use crate::note::ranges::put_ranges;
+use crate::note::ranges::put_range_bytes;
 use crate::session::marks::is_marks_wrong;
 ghost use mathlib.Core.Path.{_≡_};
 ghost use mathlib.Core.List.{_∷_, _++_};
@@ -49,7 +49,7 @@ pub fn write_note(h: Head, marks: &[u8], out: &mut [u8]) -> Written
     if out.len() < length {
         return Written::Refused(Reason::OutputShort);
     }
-    put_ranges(&marks[..among], count, out);
+    put_range_bytes(&marks[..among], count, out);
     let uuid = h.uuid;
     put_start(uuid, count as u32, out);
     Written::Bytes(length)
