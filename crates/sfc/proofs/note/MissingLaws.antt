@@ -96,21 +96,21 @@ pub record Listing (marks : List ℕ) (count : ℕ) (out₀ out : List ℕ) (k i
   pub within : i ≤ length marks
   pub long : length out ≡ length out₀
   pub placed : k + length (unheldFrom i (drop i marks)) ≡ count
-  pub behind : drop k out ≡ unheldFrom i (drop i marks) ++ drop count out₀
+  pub after : drop k out ≡ unheldFrom i (drop i marks) ++ drop count out₀
 
 pub list-start : (marks : List ℕ) (count : ℕ) (out : List ℕ) → Listing marks count out out count (length marks)
 list-start marks count out = record {
   within = omega arith;
   long = refl;
   placed = rw unheld-none (omega arith);
-  behind = rw unheld-none refl;
+  after = rw unheld-none refl;
 }
 
 module _ (marks : List ℕ) (count : ℕ) (out₀ out : List ℕ) (k i : ℕ) (h : 0 < i) (l : Listing marks count out₀ out k i) where
   pub list-skip : getD marks (i - 1) 0 ≡ 1 → Listing marks count out₀ out k (i - 1)
   list-skip e =
       let u = unheld-same marks i h (l .within) e in
-      record { within = omega (arith, l .within); long = l .long; placed = rw u (l .placed); behind = rw u (l .behind) }
+      record { within = omega (arith, l .within); long = l .long; placed = rw u (l .placed); after = rw u (l .after) }
 
   module _ (e : getD marks (i - 1) 0 ≡ 1 → ⊥) (all : count ≡ length (unheldFrom 0 marks)) where
     -- there is room before those listed already
@@ -129,19 +129,19 @@ module _ (marks : List ℕ) (count : ℕ) (out₀ out : List ℕ) (k i : ℕ) (h
           within = omega (arith, l .within);
           long = length-set out (k - 1) (i - 1) ∙ l .long;
           placed = rw u (omega arith);
-          behind = drop-set out (k - 1) (i - 1) (omega arith) ∙ (rw (f, u) (ap (λ (r : List ℕ). (i - 1) ∷ r) (l .behind)));
+          after = drop-set out (k - 1) (i - 1) (omega arith) ∙ (rw (f, u) (ap (λ (r : List ℕ). (i - 1) ∷ r) (l .after)));
         }
 
 pub list-end : (marks : List ℕ) (count : ℕ) (out₀ out : List ℕ) (k i : ℕ) → i ≤ 0 → count ≡ length (unheldFrom 0 marks)
     → Listing marks count out₀ out k i → out ≡ put out₀ 0 (unheldFrom 0 marks)
 list-end marks count out₀ out k zero h all l =
     let z : k ≡ 0 = omega (arith, l .placed) in
-    (rw (z, all) at (l .behind))
+    (rw (z, all) at (l .after))
 list-end marks count out₀ out k (suc i) h all l = absurd (omega arith)
 
 -- ---- 71 and 52
 
--- a part of the data marks, behind a test that found nothing wrong
+-- a part of the data marks, after a test that found nothing wrong
 pub among-right : (h : Head) (marks : List ℕ) (wrong : Bool) (among : ℕ) → wrong ≡ marksWrong (h .size) (h .n) (h .m) (h .s) marks → wrong ≡ false
     → among ≤ h .n → (among ≤ length marks) × (among ≤ 1024) × (length (take among marks) ≡ among)
 among-right h marks wrong among e f l =

@@ -1,4 +1,4 @@
--- NoteTheorems.note-read-back: the fields of a note's bytes, read one behind the other. Assumes nothing.
+-- NoteTheorems.note-read-back: the fields of a note's bytes, read one after the other. Assumes nothing.
 use Prim.Native.Nat.{ℕ, zero, suc, _+_, _*_, _≤_}
 use mathlib.Core.Path.{_≡_, refl, sym, ap, ap₂, _∙_}
 use mathlib.Core.Bool.{false}

@@ -158,13 +158,13 @@ note-long b e =
 pub record Copying (b : List ℕ) (count : ℕ) (out₀ out : List ℕ) (k : ℕ) : Type 0 where
   pub within : k ≤ count
   pub long : length out ≡ length out₀
-  pub behind : drop (2 * k) out ≡ bounds (pairsFrom b (23 + 8 * k) (count - k)) ++ drop (2 * count) out₀
+  pub after : drop (2 * k) out ≡ bounds (pairsFrom b (23 + 8 * k) (count - k)) ++ drop (2 * count) out₀
 
 pub copy-start : (b : List ℕ) (count : ℕ) (out : List ℕ) → Copying b count out out count
 unfolding bounds pairsFrom
 copy-start b count out =
     let n : count - count ≡ 0 = omega arith in
-    record { within = omega arith; long = refl; behind = rw n }
+    record { within = omega arith; long = refl; after = rw n }
 
 pub copy-turn : (b : List ℕ) (count : ℕ) (out₀ out : List ℕ) (k first last : ℕ) → 0 < k → 2 * count ≤ length out₀ → Copying b count out₀ out k
     → first ≡ be b (23 + 8 * (k - 1)) 4 → last ≡ be b (27 + 8 * (k - 1)) 4
@@ -180,11 +180,11 @@ copy-turn b count out₀ out k first last h room l ef el =
     let ls : length (set out (2 * (k - 1) + 1) last) ≡ length out = length-set out (2 * (k - 1) + 1) last in
     let x = drop-set (set out (2 * (k - 1) + 1) last) (2 * (k - 1)) first (omega arith) in
     let y = drop-set out (2 * (k - 1) + 1) last (omega arith) in
-    let z : drop (2 * (k - 1) + 1 + 1) out ≡ bounds (pairsFrom b (23 + 8 * k) (count - k)) ++ drop (2 * count) out₀ = rw r (l .behind) in
+    let z : drop (2 * (k - 1) + 1 + 1) out ≡ bounds (pairsFrom b (23 + 8 * k) (count - k)) ++ drop (2 * count) out₀ = rw r (l .after) in
     record {
       within = omega arith;
       long = length-set (set out (2 * (k - 1) + 1) last) (2 * (k - 1)) first ∙ ls ∙ lo;
-      behind = x ∙ ap (λ (t : List ℕ). first ∷ t) (y ∙ ap (λ (t : List ℕ). last ∷ t) z) ∙ (rw (n, p, q, ef, el) refl);
+      after = x ∙ ap (λ (t : List ℕ). first ∷ t) (y ∙ ap (λ (t : List ℕ). last ∷ t) z) ∙ (rw (n, p, q, ef, el) refl);
     }
 
 pub length-pairsFrom : (b : List ℕ) (at k : ℕ) → length (pairsFrom b at k) ≡ k
@@ -200,7 +200,7 @@ pub copy-end : (b : List ℕ) (count : ℕ) (out₀ out : List ℕ) (k : ℕ) �
 copy-end b count out₀ out zero h l =
     let n : count - 0 ≡ count = omega arith in
     let d = length-bounds b 23 count in
-    (rw n at (l .behind)) ∙ ap (λ (j : ℕ). bounds (pairsFrom b 23 count) ++ drop j out₀) (sym d)
+    (rw n at (l .after)) ∙ ap (λ (j : ℕ). bounds (pairsFrom b 23 count) ++ drop j out₀) (sym d)
 copy-end b count out₀ out (suc k) h l = absurd (omega arith)
 
 -- ---- the answers of the reader

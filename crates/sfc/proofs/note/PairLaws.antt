@@ -1,5 +1,5 @@
 -- Ranges written from the last mark to the first, one index before those that stand already: the same for a note's bytes and
--- for numbers. Assumes nothing.
+-- for a list of bounds. Assumes nothing.
 use Prim.Native.Nat.{ℕ, zero, suc, _+_, _-_, _*_, _<_, _≤_}
 use mathlib.Core.Path.{_≡_, refl, sym, ap, _∙_}
 use mathlib.Core.Bool.{Bool, true, false, cond}
@@ -62,7 +62,7 @@ bytes-own out between after k r i joined j f h eb ea =
     (drop-big between after (23 + 8 * r) 4 i (27 + 8 * r) (omega arith) (omega arith) ea
     ∙ ap (λ (x : List ℕ). bigBytes 4 i ++ x) (drop-big out between (27 + 8 * r) 4 i (23 + 8 * k) (omega arith) h eb))
 
--- as numbers: two of them for each pair
+-- as bounds: two entries for each pair
 abbrev pub boundAt : ℕ → ℕ
 boundAt k = 2 * k
 
@@ -189,7 +189,7 @@ unfolding bounds
 bounds-long [] = refl
 bounds-long (r ∷ rs) = omega (arith, bounds-long rs)
 
--- the numbers at the output's front
+-- all bounds at the output's front
 pub bounds-placed : (rs : List Range) (count : ℕ) (out₀ out : List ℕ) → count ≡ length rs → out ≡ bounds rs ++ drop (2 * count) out₀
     → out ≡ put out₀ 0 (bounds rs)
 bounds-placed rs count out₀ out e f =

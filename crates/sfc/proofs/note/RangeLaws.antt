@@ -27,7 +27,7 @@ unfoldable pub beginsAt : ℕ → List Range → Bool
 beginsAt i [] = false
 beginsAt i (r ∷ rs) = eqb i (r .first)
 
--- ---- a number put before ranges
+-- ---- an index put before ranges
 
 begins-put : (i : ℕ) (rs : List Range) → beginsAt i (putBefore i rs) ≡ true
 unfolding beginsAt putBefore

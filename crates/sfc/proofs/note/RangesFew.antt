@@ -1,5 +1,5 @@
--- RangesFew of specs/note/NoteTheorems.antt: ranges with a number between them are at most half as many as there are numbers.
--- Assumes nothing.
+-- RangesFew of specs/note/NoteTheorems.antt: ranges with an index between them are at most half as many as there are
+-- indices. Assumes nothing.
 use Prim.Native.Nat.{ℕ, zero, suc, _+_, _*_, _≤_, _<_}
 use mathlib.Core.Path.{_≡_}
 use mathlib.Core.Bool.{Bool, true, false, cond}
@@ -18,7 +18,7 @@ use Rattle.sfc.proofs.note.MissingExact.{missing-rises}
 use Rattle.sfc.proofs.note.RangesExact.{apart, ranges-exact}
 use Rattle.sfc.proofs.note.PairLaws.{bounds-long}
 
--- each range of indices of so many marks ends among them, and ranges with a number between them are at most half as many
+-- each range of indices of so many marks ends among them, and ranges with an index between them are at most half as many
 abbrev pub Ends : ℕ → List Range → Type 0
 Ends top [] = Unit {0}
 Ends top (r ∷ rs) = (r .last < top) × Ends top rs

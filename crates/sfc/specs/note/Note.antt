@@ -20,12 +20,12 @@ use Rattle.sfc.specs.declared.answer.written.Written.the-variants.{Bytes
 
 -- ---- big-endian fields
 
--- the number that `width` bytes from place `at` on make, the highest first; past the end a byte counts as 0
+-- what `width` bytes from place `at` on say, the highest first; past the end a byte counts as 0
 unfoldable pub be : List ℕ → ℕ → ℕ → ℕ
 be b at zero = 0
 be b at (suc width) = be b at width * 256 + getD b (at + width) 0
 
--- the `width` lowest bytes of a number, the highest first
+-- the `width` lowest bytes of v, the highest first
 unfoldable pub bigBytes : ℕ → ℕ → List ℕ
 bigBytes zero v = []
 bigBytes (suc width) v = bigBytes width (v / 256) ++ (v % 256 ∷ [])

@@ -28,14 +28,14 @@ pub record MissingExact : Type 0 where
       → among i (missing n marks) ≡ (ltb (heldCount marks) n && (ltb i n && not (isHeld (getD marks i 0))))
   pub rising : (n : ℕ) (marks : List ℕ) → risingFrom 0 (missing n marks) ≡ true
 
--- the ranges of a rising list are maximal and have just its numbers, and no other maximal ranges have the same
+-- the ranges of a rising list are maximal and have just its indices, and no other maximal ranges have the same
 pub record RangesExact : Type 0 where
   pub rise : (is : List ℕ) → risingFrom 0 is ≡ true → maximal (ranges is) ≡ true
   pub cover : (is : List ℕ) → risingFrom 0 is ≡ true → (i : ℕ) → covered i (ranges is) ≡ among i is
   pub only-one : (rs qs : List Range) → maximal rs ≡ true → maximal qs ≡ true → ((i : ℕ) → covered i rs ≡ covered i qs) → rs ≡ qs
 
--- how much to lend for the ranges of n data blocks: two numbers each, and at most half of n + 1 of them; so 1,024 numbers are
--- enough for 1,024 blocks
+-- how much to lend for the ranges of n data blocks: each takes two entries, and there are at most half of n + 1; so 1,024
+-- entries are enough for 1,024 blocks
 pub record RangesFew : Type 0 where
   pub bounds-long : (rs : List Range) → length (bounds rs) ≡ 2 * length rs
   pub ranges-few : (n : ℕ) (marks : List ℕ) → 2 * length (ranges (missing n marks)) ≤ n + 1

@@ -1,4 +1,4 @@
--- The ranges that rising numbers make, and the ranges of the unknown data blocks (document 01, "Resend note and listing").
+-- The ranges that rising indices make, and the ranges of the unknown data blocks (document 01, "Resend note and listing").
 -- Assumes nothing: these are definitions.
 use Prim.Native.Nat.{ℕ, suc, _+_}
 use mathlib.Core.Bool.{Bool, true, cond, _&&_}
@@ -18,18 +18,18 @@ pub record Range : Type 0 where
   pub first : ℕ
   pub last : ℕ
 
--- a number put before ranges: it joins the first of them, or is a range of its own
+-- an index put before ranges: it joins the first of them, or is a range of its own
 unfoldable pub putBefore : ℕ → List Range → List Range
 putBefore i [] = record { first = i; last = i } ∷ []
 putBefore i (r ∷ rs) =
     cond (eqb (suc i) (r .first)) (record { first = i; last = r .last } ∷ rs) (record { first = i; last = i } ∷ r ∷ rs)
 
--- the ranges of a rising list of numbers
+-- the ranges of a rising list of indices
 unfoldable pub ranges : List ℕ → List Range
 ranges [] = []
 ranges (i ∷ is) = putBefore i (ranges is)
 
--- no range is empty, the first begins at `least` or later, and a number lies between each and the next
+-- no range is empty, the first begins at `least` or later, and an index lies between each and the next
 unfoldable pub apartFrom : ℕ → List Range → Bool
 apartFrom least [] = true
 apartFrom least (r ∷ rs) = leb least (r .first) && leb (r .first) (r .last) && apartFrom (r .last + 2) rs
@@ -37,7 +37,7 @@ apartFrom least (r ∷ rs) = leb least (r .first) && leb (r .first) (r .last) &&
 abbrev pub maximal : List Range → Bool
 maximal rs = apartFrom 0 rs
 
--- the numbers that a caller is given: first and last of each range
+-- what a caller is given: first and last of each range
 unfoldable pub bounds : List Range → List ℕ
 bounds [] = []
 bounds (r ∷ rs) = r .first ∷ r .last ∷ bounds rs

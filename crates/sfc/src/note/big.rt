@@ -5,7 +5,7 @@ ghost use lib.ListN.{length};
 ghost use Rattle.little.specs.Parts.{put};
 ghost use Rattle.sfc.specs.note.Note.{be, bigBytes};
 
-// The big-endian number of `width` bytes from `at` on; a byte past the end counts as 0.
+// What `width` bytes from `at` on say, the highest first; a byte past the end counts as 0.
 pub(crate) fn read_big(b: &[u8], at: usize, width: usize) -> u32
     requires { ⌜ (width ≤ 4) × (at + 4 < 2 ^ 64) ⌝ }
     ensures { λ r. ⌜ r ≡ be (now (b .entry)) at width ⌝ }

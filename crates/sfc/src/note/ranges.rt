@@ -2,6 +2,10 @@
 use crate::answer::reason::Reason;
 use crate::format::header::Head;
 use crate::note::big::put_big;
+use crate::note::layout::INDEX_BYTES;
+use crate::note::layout::LASTS_AT;
+use crate::note::layout::PAIR_BYTES;
+use crate::note::layout::PAIRS_AT;
 use crate::note::missing::Listed;
 use crate::note::missing::open_marks;
 use crate::session::marks::is_marks_wrong;
@@ -35,18 +39,18 @@ pub(crate) fn count_ranges(marks: &[u8]) -> usize
     count
 }
 
-// Puts index i before pair k, as the first of that pair or as a pair of its own, and gives the number of its pair.
+// Puts index i before pair k, as the first of that pair or as a pair of its own, and gives the place of its pair.
 fn put_index_bytes(out: &mut [u8], k: usize, i: u32, joined: bool) -> usize
     requires { ⌜ (23 + 8 * k ≤ length (now out)) × (joined ≡ true → 27 + 8 * k ≤ length (now out)) × (joined ≡ false → 0 < k) ⌝ }
     ensures { λ r. ⌜ (joined ≡ true → r ≡ k) × (joined ≡ false → r + 1 ≡ k) × (drop (23 + 8 * r) (now (out .exit)) ≡ indexPut joined (bigBytes 4 i) (drop (23 + 8 * k) (now (out .entry)))) ⌝ }
 {
     if joined {
-        put_big(out, 23 + 8 * k, 4, i);
+        put_big(out, PAIRS_AT + PAIR_BYTES * k, INDEX_BYTES, i);
         return k;
     }
     let own = k - 1;
-    put_big(out, 27 + 8 * own, 4, i);
-    put_big(out, 23 + 8 * own, 4, i);
+    put_big(out, LASTS_AT + PAIR_BYTES * own, INDEX_BYTES, i);
+    put_big(out, PAIRS_AT + PAIR_BYTES * own, INDEX_BYTES, i);
     own
 }
 
@@ -69,7 +73,7 @@ pub(crate) fn put_range_bytes(marks: &[u8], count: usize, out: &mut [u8])
     }
 }
 
-// As `put_index_bytes`, for pairs of numbers.
+// As `put_index_bytes`, where a pair is two entries of the output.
 fn put_index_bounds(out: &mut [u32], k: usize, i: u32, joined: bool) -> usize
     requires { ⌜ (2 * k ≤ length (now out)) × (joined ≡ true → 2 * k < length (now out)) × (joined ≡ false → 0 < k) ⌝ }
     ensures { λ r. ⌜ (joined ≡ true → r ≡ k) × (joined ≡ false → r + 1 ≡ k) × (drop (2 * r) (now (out .exit)) ≡ indexPut joined (i ∷ []) (drop (2 * k) (now (out .entry)))) ⌝ }
@@ -103,7 +107,8 @@ fn put_range_bounds(marks: &[u8], count: usize, out: &mut [u32])
     }
 }
 
-// First and last of each range of the unknown data indices, one pair after the other; the count is of numbers, two for each.
+// First and last of each range of the unknown data indices, one pair after the other; the count is of entries, two
+// for each range.
 pub fn list_ranges(h: Head, marks: &[u8], out: &mut [u32]) -> Listed
     ensures { λ r. ⌜ _≡_ {A = Answered Listed} (record { answer = r; output = now (out .exit) }) (listRanges h (now (marks .entry)) (now (out .entry))) ⌝ }
 {

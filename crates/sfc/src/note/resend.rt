@@ -5,6 +5,17 @@ use crate::answer::written::Written;
 use crate::format::header::Head;
 use crate::note::big::put_big;
 use crate::note::big::read_big;
+use crate::note::layout::COUNT_AT;
+use crate::note::layout::COUNT_BYTES;
+use crate::note::layout::FOLLOWING;
+use crate::note::layout::INDEX_BYTES;
+use crate::note::layout::LASTS_AT;
+use crate::note::layout::LENGTH_BYTES;
+use crate::note::layout::PAIR_BYTES;
+use crate::note::layout::PAIRS_AT;
+use crate::note::layout::UUID_AT;
+use crate::note::layout::VERSION;
+use crate::note::layout::VERSION_AT;
 use crate::note::missing::open_marks;
 use crate::note::ranges::count_ranges;
 use crate::note::ranges::put_range_bytes;
@@ -30,10 +41,15 @@ fn put_start(uuid: [u8; 16], count: u32, out: &mut [u8])
     requires { ⌜ (23 ≤ length (now out)) × (count < 2 ^ 16) ⌝ }
     ensures { λ _. ⌜ now (out .exit) ≡ bigBytes 4 (19 + 8 * count) ++ (1 ∷ (uuid ++ (bigBytes 2 count ++ drop 23 (now (out .entry))))) ⌝ }
 {
-    put_big(out, 21, 2, count);
-    bytes::copy(&uuid, &mut out[5..21]);
-    out[4] = 1;
-    put_big(out, 0, 4, 19 + 8 * count);
+    put_big(out, COUNT_AT, COUNT_BYTES, count);
+    bytes::copy(&uuid, &mut out[UUID_AT..COUNT_AT]);
+    out[VERSION_AT] = VERSION;
+    put_big(
+        out,
+        0,
+        LENGTH_BYTES,
+        FOLLOWING as u32 + PAIR_BYTES as u32 * count,
+    );
 }
 
 // The note of a session: its UUID and the ranges of its unknown data indices.
@@ -45,7 +61,7 @@ pub fn write_note(h: Head, marks: &[u8], out: &mut [u8]) -> Written
     }
     let among = open_marks(h.n, marks);
     let count = count_ranges(&marks[..among]);
-    let length = 23 + 8 * count;
+    let length = PAIRS_AT + PAIR_BYTES * count;
     if out.len() < length {
         return Written::Refused(Reason::OutputShort);
     }
@@ -55,7 +71,7 @@ pub fn write_note(h: Head, marks: &[u8], out: &mut [u8]) -> Written
     Written::Bytes(length)
 }
 
-// Whether the pairs rise with a number between neighbours; in 64 bits `last + 2` cannot wrap.
+// Whether the pairs rise with an index between neighbours; in 64 bits `last + 2` cannot wrap.
 fn is_maximal(note: &[u8], count: u32) -> bool
     ensures { λ r. ⌜ r ≡ maximal (pairsFrom (now (note .entry)) 23 count) ⌝ }
 {
@@ -63,9 +79,9 @@ fn is_maximal(note: &[u8], count: u32) -> bool
     let mut least: u64 = 0;
     let mut k: u32 = 0;
     while k < count {
-        let at = 23 + 8 * k as usize;
-        let first = read_big(note, at, 4) as u64;
-        let last = read_big(note, at + 4, 4) as u64;
+        let at = PAIRS_AT + PAIR_BYTES * k as usize;
+        let first = read_big(note, at, INDEX_BYTES) as u64;
+        let last = read_big(note, at + INDEX_BYTES, INDEX_BYTES) as u64;
         apart = apart & ((least <= first) & (first <= last));
         least = last + 2;
         k += 1;
@@ -73,21 +89,21 @@ fn is_maximal(note: &[u8], count: u32) -> bool
     apart
 }
 
-// 70
+// What 70 refuses: a length, a version or pairs that no note has.
 fn is_malformed(note: &[u8]) -> bool
     ensures { λ r. ⌜ r ≡ malformed (now (note .entry)) ⌝ }
 {
-    let count = read_big(note, 21, 2);
-    let length = note.len() != 23 + 8 * count as usize;
-    let told = read_big(note, 0, 4) as usize != 19 + 8 * count as usize;
-    let version = little::byte_at(note, 4) != 1;
+    let count = read_big(note, COUNT_AT, COUNT_BYTES);
+    let length = note.len() != PAIRS_AT + PAIR_BYTES * count as usize;
+    let told = read_big(note, 0, LENGTH_BYTES) as usize != FOLLOWING + PAIR_BYTES * count as usize;
+    let version = little::byte_at(note, VERSION_AT) != VERSION;
     if length | told | version {
         return true;
     }
     !is_maximal(note, count)
 }
 
-// The pairs of a note as numbers, from the last to the first.
+// The pairs of a note, two entries of the output each, from the last to the first.
 fn put_bounds(note: &[u8], count: u32, out: &mut [u32])
     requires { ⌜ 2 * count ≤ length (now out) ⌝ }
     ensures { λ _. ⌜ now (out .exit) ≡ put (now (out .entry)) 0 (bounds (pairsFrom (now (note .entry)) 23 count)) ⌝ }
@@ -95,8 +111,8 @@ fn put_bounds(note: &[u8], count: u32, out: &mut [u32])
     let mut k = count as usize;
     while 0 < k {
         k -= 1;
-        out[2 * k + 1] = read_big(note, 27 + 8 * k, 4);
-        out[2 * k] = read_big(note, 23 + 8 * k, 4);
+        out[2 * k + 1] = read_big(note, LASTS_AT + PAIR_BYTES * k, INDEX_BYTES);
+        out[2 * k] = read_big(note, PAIRS_AT + PAIR_BYTES * k, INDEX_BYTES);
     }
 }
 
@@ -116,18 +132,18 @@ fn uuid_of(note: &[u8]) -> [u8; 16]
     ensures { λ r. ⌜ r ≡ uuidIn (now (note .entry)) ⌝ }
 {
     let mut uuid = [0u8; 16];
-    bytes::copy(&note[5..21], &mut uuid);
+    bytes::copy(&note[UUID_AT..COUNT_AT], &mut uuid);
     uuid
 }
 
-// Any bytes may come; only those that some note has are taken. The ranges go out as first and last, one pair behind the other.
+// Any bytes may come; only those that some note has are taken. The ranges go out as first and last, one pair after the other.
 pub fn read_note(note: &[u8], out: &mut [u32]) -> NoteRead
     ensures { λ r. ⌜ _≡_ {A = Answered NoteRead} (record { answer = r; output = now (out .exit) }) (readNote (now (note .entry)) (now (out .entry))) ⌝ }
 {
     if is_malformed(note) {
         return refused_note(Reason::Note);
     }
-    let count = read_big(note, 21, 2);
+    let count = read_big(note, COUNT_AT, COUNT_BYTES);
     if out.len() < 2 * count as usize {
         return refused_note(Reason::OutputShort);
     }

@@ -1,4 +1,4 @@
--- `sfc::note::ranges::put_range_bounds` meets its contract. The loop's invariant: the ranges of the marks from i on stand as pairs of numbers from pair k on. Assumes nothing.
+-- `sfc::note::ranges::put_range_bounds` meets its contract. The loop's invariant: the ranges of the marks from i on stand as bounds from pair k on. Assumes nothing.
 use native.Mathlib.Omega.{arith}
 use Rattle.sfc.specs.note.Ranges.{bounds}
 use Rattle.sfc.proofs.note.PairLaws.{boundAt, as-bounds, Placing, place-start, place-skip, place-room, place-turn, place-end, bounds-placed}
