@@ -2,5 +2,6 @@
 -- its functions.
 pub mod demand
 pub use Rattle.sfc.proofs.note.NoteExact
+pub use Rattle.sfc.proofs.note.RangesFew
 pub use Rattle.sfc.proofs.session.SessionLaws
 pub use Rattle.sfc.proofs.session.RightLaws

@@ -6,13 +6,20 @@ use mathlib.Core.Bool.{Bool, true, false, cond}
 use mathlib.Core.Logic.{⊎-elim}
 use mathlib.Core.List.{List, [], _∷_}
 use native.Mathlib.Omega.{arith}
+use borrow.Author.Tests.{le-ltb}
 use lib.Dec.{eqb}
 use lib.ListN.{length, take}
 use Rattle.little.proofs.PartLaws.{below-or}
-use Rattle.sfc.specs.session.Marks.{isHeld, heldCount}
+use Rattle.little.specs.Parts.{put}
+use Rattle.sfc.specs.answer.Numbers.{Answered}
+use Rattle.sfc.specs.session.Marks.{isHeld, heldCount, marksWrong}
 use Rattle.sfc.specs.note.Missing.{unheldFrom, missing}
-use Rattle.sfc.specs.note.Ranges.{Range, putBefore, ranges, apartFrom}
+use Rattle.sfc.specs.note.Ranges.{Range, putBefore, ranges, apartFrom, bounds, boundsFor, listRanges}
 use Rattle.sfc.specs.note.NoteTheorems.{RangesFew}
+use Rattle.sfc.specs.declared.format.header.Head.{Head}
+use Rattle.sfc.specs.declared.note.missing.Listed.{Listed}
+use Rattle.sfc.specs.declared.note.missing.Listed.the-variants.{Count}
+use Rattle.sfc.proofs.session.MarkLaws.{right-marks}
 use Rattle.sfc.proofs.note.MissingLaws.{missing-none, missing-all}
 use Rattle.sfc.proofs.note.MissingExact.{missing-rises}
 use Rattle.sfc.proofs.note.RangesExact.{apart, ranges-exact}
@@ -63,9 +70,15 @@ few n marks =
     let h = half 0 n (ranges (missing n marks)) (omega arith) (ranges-exact .rise (missing n marks) (missing-rises n marks)) (missing-ends n marks) in
     omega arith
 
+bounds-few : (n : ℕ) (marks : List ℕ) → n ≤ 1024 → length (bounds (ranges (missing n marks))) ≤ 1024
+bounds-few n marks h = omega (arith, few n marks, bounds-long (ranges (missing n marks)))
+
+ranges-given : (h : Head) (marks out : List ℕ) → marksWrong (h .size) (h .n) (h .m) (h .s) marks ≡ false → 1024 ≤ length out
+    → _≡_ {A = Answered Listed} (listRanges h marks out) (record { answer = Count (length (boundsFor h marks)); output = put out 0 (boundsFor h marks) })
+unfolding listRanges
+ranges-given h marks out e l =
+    let f = bounds-few (h .n) marks (right-marks (h .size) (h .n) (h .m) (h .s) marks e .shape .n-most) in
+    rw (e, le-ltb (length out) (length (boundsFor h marks)) (omega arith))
+
 pub ranges-few : RangesFew
-ranges-few = record {
-  bounds-long = bounds-long;
-  ranges-few = few;
-  bounds-few = λ n marks h. omega (arith, few n marks, bounds-long (ranges (missing n marks)));
-}
+ranges-few = record { bounds-long = bounds-long; ranges-few = few; bounds-few = bounds-few; ranges-given = ranges-given }

@@ -13,9 +13,11 @@ use Rattle.little.specs.Runs.{any, among, risingFrom}
 use Rattle.sfc.specs.session.Marks.{isHeld, heldCount, marksWrong}
 use Rattle.sfc.specs.answer.Numbers.{Answered}
 use Rattle.sfc.specs.note.Missing.{missing}
-use Rattle.sfc.specs.note.Ranges.{Range, ranges, maximal, bounds}
+use Rattle.sfc.specs.note.Ranges.{Range, ranges, maximal, bounds, boundsFor, listRanges}
 use Rattle.sfc.specs.note.Note.{noteOf, malformed, readNote}
 use Rattle.sfc.specs.declared.format.header.Head.{Head}
+use Rattle.sfc.specs.declared.note.missing.Listed.{Listed}
+use Rattle.sfc.specs.declared.note.missing.Listed.the-variants.{Count}
 use Rattle.sfc.specs.declared.note.resend.NoteRead.{NoteRead}
 use Rattle.sfc.specs.declared.answer.reason.Checked.the-variants.{Good}
 
@@ -40,6 +42,9 @@ pub record RangesFew : Type 0 where
   pub bounds-long : (rs : List Range) → length (bounds rs) ≡ 2 * length rs
   pub ranges-few : (n : ℕ) (marks : List ℕ) → 2 * length (ranges (missing n marks)) ≤ n + 1
   pub bounds-few : (n : ℕ) (marks : List ℕ) → n ≤ 1024 → length (bounds (ranges (missing n marks))) ≤ 1024
+  -- with right marks and so much lent, the call always lists them
+  pub ranges-given : (h : Head) (marks out : List ℕ) → marksWrong (h .size) (h .n) (h .m) (h .s) marks ≡ false → 1024 ≤ length out
+      → _≡_ {A = Answered Listed} (listRanges h marks out) (record { answer = Count (length (boundsFor h marks)); output = put out 0 (boundsFor h marks) })
 
 -- every index has 32 bits
 abbrev pub Small : List Range → Type 0
