@@ -2,6 +2,7 @@
 use crate::answer::reason::Reason;
 use crate::format::header::Head;
 use crate::session::lent::is_marks_wrong;
+use crate::session::marks::HELD;
 ghost use mathlib.Core.Path.{_≡_};
 ghost use Prim.Native.Nat.{_<_, _≤_, _^_};
 ghost use lib.ListN.{length, take};
@@ -36,7 +37,7 @@ fn put_unheld(marks: &[u8], count: usize, out: &mut [u32])
     let mut i = marks.len();
     while 0 < i {
         i -= 1;
-        if marks[i] != 1 {
+        if marks[i] != HELD {
             k -= 1;
             out[k] = i as u32;
         }
