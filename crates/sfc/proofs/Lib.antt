@@ -16,5 +16,6 @@ pub use Rattle.sfc.proofs.writing.FileLaws
 pub use Rattle.sfc.proofs.writing.InputLaws
 pub use Rattle.sfc.proofs.writing.HeaderBack
 pub use Rattle.sfc.proofs.writing.ChunkBack
+pub use Rattle.sfc.proofs.note.RangesFew
 pub use Rattle.sfc.proofs.session.SessionLaws
 pub use Rattle.sfc.proofs.session.RightLaws

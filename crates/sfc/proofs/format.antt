@@ -2,6 +2,7 @@
 pub mod LimitLaws
 pub mod TextLaws
 pub mod ListLaws
+pub mod FieldWalk
 pub mod ExtensionLaws
 pub mod HeaderLaws
 pub mod ChunkLaws

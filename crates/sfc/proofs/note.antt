@@ -2,8 +2,10 @@
 pub mod MissingLaws
 pub mod BigLaws
 pub mod RangeLaws
+pub mod PairLaws
 pub mod NoteLaws
 pub mod MissingExact
 pub mod RangesExact
+pub mod RangesFew
 pub mod NoteBack
 pub mod NoteExact

@@ -1,7 +1,9 @@
--- The bytes of a container: the words for them (Bytes), limits, extension fields, header, chunk, and where a field stands (Lookup).
+-- The bytes of a container: the words for them (Bytes), limits, extension fields, header, chunk, where a field stands (Lookup),
+-- and what the walk over fields finds (FieldTheorems).
 pub mod Bytes
 pub mod Limits
 pub mod Extension
 pub mod Header
 pub mod Chunk
 pub mod Lookup
+pub mod FieldTheorems

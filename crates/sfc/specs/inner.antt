@@ -2,3 +2,4 @@
 pub mod Steps
 pub mod Gather
 pub mod Writing
+pub mod Index

@@ -1,4 +1,6 @@
--- What is missing (Missing), the resend note (Note), and what is proved of both (NoteTheorems).
+-- What is missing (Missing), the ranges that it makes (Ranges), the resend note (Note), and what is proved of them
+-- (NoteTheorems).
 pub mod Missing
+pub mod Ranges
 pub mod Note
 pub mod NoteTheorems

@@ -30,9 +30,10 @@ pub use give::hand_out::HandedOut;
 pub use give::hand_out::hand_out;
 pub use give::prefix::PrefixGiven;
 pub use give::prefix::prefix;
-// What is missing, and the note that asks for it.
+// What is missing, index by index or as ranges, and the note that asks for it.
 pub use note::missing::Listed;
 pub use note::missing::list_missing;
+pub use note::ranges::list_ranges;
 pub use note::resend::NoteRead;
 pub use note::resend::read_note;
 pub use note::resend::write_note;

@@ -1,3 +1,6 @@
-// What is missing: as a list, and as the note that asks for it.
+// What is missing: as a list, as ranges, and as the note that asks for it.
+pub mod big;
+pub mod layout;
 pub mod missing;
+pub mod ranges;
 pub mod resend;

@@ -1,5 +1,5 @@
 -- Demand 1 (specs/demand/Demand1.antt), call by call. Assumes nothing.
-use Prim.Native.Nat.{ℕ, _*_, _≤_, _<_}
+use Prim.Native.Nat.{ℕ, _+_, _*_, _≤_, _<_}
 use mathlib.Core.Path.{_≡_, refl, sym, ap, ap₂, _∙_}
 use mathlib.Core.Bool.{Bool, true, false, cond, not, _&&_, _||_, false≢true}
 use mathlib.Core.List.{List, [], _∷_}
@@ -11,8 +11,10 @@ use Rattle.little.specs.Parts.{put}
 use Rattle.little.proofs.TestLaws.{or-false}
 use Rattle.little.specs.Runs.{any, zeros, among}
 use Rattle.sfc.specs.answer.Numbers.{Check, checked, verdict, passes, numberOf}
-use Rattle.sfc.specs.format.Header.{headerChecks, regionOf, headOf, refusedHeader, acceptedHeader, readHeader}
+use Rattle.sfc.specs.format.Header.{lengthField, headerChecks, regionOf, headOf, refusedHeader, acceptedHeader, readHeader}
+use Rattle.sfc.specs.format.Extension.{Field, fieldsOf}
 use Rattle.sfc.specs.format.Chunk.{indexOf, aloneChecks, checkChunk}
+use Rattle.sfc.specs.format.Lookup.{foundAmong, extensionOf, extensionPlace, findField}
 use Rattle.sfc.specs.answer.Places.{number, place}
 use Rattle.sfc.specs.session.Marks.{isHeld, heldCount}
 use Rattle.sfc.specs.session.Tallies.{counted, countedRefusal}
@@ -22,7 +24,8 @@ use Rattle.sfc.specs.give.HandOut.{lentAfter, contentOf, handOutLent, co
 use Rattle.sfc.specs.give.Block.{blockGiven, blockLent, blockChecks, blockRequest}
 use Rattle.sfc.specs.give.Prefix.{prefixBlocks, prefixOf, prefixChecks, prefixGiven}
 use Rattle.sfc.specs.note.Missing.{missing, missingChecks, listMissing}
-use Rattle.sfc.specs.note.Note.{noteFor, noteChecks, writeNote, countIn, rangesIn, bounds, readChecks, refusedNote, goodNote, readNote}
+use Rattle.sfc.specs.note.Note.{noteFor, noteChecks, writeNote, countIn, rangesIn, readChecks, refusedNote, goodNote, readNote}
+use Rattle.sfc.specs.note.Ranges.{bounds, boundsFor, rangeChecks, listRanges}
 use Rattle.sfc.specs.writing.Writer.{Input, fileOf, writerChecks, writeFile}
 use Rattle.sfc.specs.demand.Demand1.{OneOf, Leaves, Ends, lentLeft, Demand1}
 use Rattle.sfc.specs.declared.format.header.Head.{Head}
@@ -34,6 +37,8 @@ use Rattle.sfc.specs.declared.answer.reason.Checked.{Checked}
 use Rattle.sfc.specs.declared.answer.reason.Checked.the-variants.{Good, Refused}
 use Rattle.sfc.specs.declared.format.chunk.ChunkChecked.{ChunkChecked}
 use Rattle.sfc.specs.declared.format.chunk.ChunkChecked.the-variants.{Whole, Refused as NoChunk}
+use Rattle.sfc.specs.declared.format.lookup.FieldFound.{FieldFound}
+use Rattle.sfc.specs.declared.format.lookup.FieldFound.the-variants.{At, Nothing, Refused as NotShown}
 use Rattle.sfc.specs.declared.session.offer.Verdict.{Verdict}
 use Rattle.sfc.specs.declared.session.offer.Verdict.the-variants.{Fresh, Repeat, Refused as NotTaken}
 use Rattle.sfc.specs.declared.give.hand_out.HandedOut.{HandedOut}
@@ -54,7 +59,7 @@ use Rattle.sfc.proofs.session.OfferLaws.{one-offer}
 use Rattle.sfc.proofs.note.NoteLaws.{length-bounds}
 use Rattle.sfc.proofs.session.HeldLaws.{length-decode, length-content}
 use Rattle.sfc.proofs.give.GivenLaws.{lent-right, lent-output, complete-has-hash}
-use Rattle.sfc.proofs.format.FieldInside.{field-inside}
+use Rattle.sfc.proofs.format.FieldInside.{field-in-region}
 use Rattle.sfc.proofs.answer.RefusalLaws.{leaves, ends, early-told}
 
 -- ---- the verdict in each kind of answer
@@ -62,6 +67,11 @@ use Rattle.sfc.proofs.answer.RefusalLaws.{leaves, ends, early-told}
 abbrev chunkSeen : ChunkChecked → Checked
 chunkSeen (Whole i p) = Good
 chunkSeen (NoChunk r) = Refused r
+
+abbrev fieldSeen : FieldFound → Checked
+fieldSeen (At p n) = Good
+fieldSeen Nothing = Good
+fieldSeen (NotShown r) = Refused r
 
 abbrev offerSeen : Verdict → Checked
 offerSeen (Fresh i p) = Good
@@ -104,6 +114,41 @@ chunk-refused h c r e =
     number-in (λ (k : ℕ). among k (71 ∷ 30 ∷ 31 ∷ 32 ∷ 33 ∷ 34 ∷ 35 ∷ 36 ∷ 37 ∷ 38 ∷ 39 ∷ 40 ∷ []) ≡ true) (aloneChecks h c) r
     (refl, (refl, (refl, (refl, (refl, (refl, (refl, (refl, (refl, (refl, (refl, (refl, (refl, tt)))))))))))))
     (tells chunkSeen NoChunk (Whole (number (indexOf c)) (place 48)) (λ q. refl) refl (aloneChecks h c) (Refused r) (ap chunkSeen e))
+
+-- ---- a field
+
+field-good : (tag at : ℕ) (fs : List Field) → fieldSeen (foundAmong tag at fs) ≡ Good
+unfolding foundAmong
+field-good tag at [] = refl
+field-good tag at (f ∷ fs) = go (eqb (f .tag) tag) (field-good tag (at + 6 + length (f .value)) fs)
+  where
+    go : (t : Bool) → fieldSeen (foundAmong tag (at + 6 + length (f .value)) fs) ≡ Good
+        → fieldSeen (cond t (At (place (at + 6)) (length (f .value))) (foundAmong tag (at + 6 + length (f .value)) fs)) ≡ Good
+    go true e = refl
+    go false e = e
+
+module _ (b : List ℕ) (tag : ℕ) where
+  field-told : (v : Checked) → fieldSeen (findField b tag) ≡ v → verdict (headerChecks b) ≡ v
+  unfolding findField
+  field-told v e = tells fieldSeen NotShown (foundAmong tag (extensionPlace (regionOf b)) (fieldsOf (extensionOf (regionOf b)))) (λ q. refl) (field-good tag (extensionPlace (regionOf b)) (fieldsOf (extensionOf (regionOf b)))) (headerChecks b) v e
+
+  field-refused : (r : Reason) → findField b tag ≡ NotShown r
+      → OneOf r (10 ∷ 11 ∷ 12 ∷ 13 ∷ 14 ∷ 15 ∷ 16 ∷ 17 ∷ 18 ∷ 19 ∷ 20 ∷ 21 ∷ 22 ∷ 23 ∷ []) × (readHeader b .verdict ≡ Refused r)
+  unfolding readHeader any
+  field-refused r e =
+      let t = field-told (Refused r) (ap fieldSeen e) in (
+        number-in (λ (k : ℕ). among k (10 ∷ 11 ∷ 12 ∷ 13 ∷ 14 ∷ 15 ∷ 16 ∷ 17 ∷ 18 ∷ 19 ∷ 20 ∷ 21 ∷ 22 ∷ 23 ∷ []) ≡ true) (headerChecks b) r
+            (refl, (refl, (refl, (refl, (refl, (refl, (refl, (refl, (refl, (refl, (refl, (refl, (refl, (refl, (refl, tt))))))))))))))) t,
+        ap (λ (x : HeaderRead). x .verdict) (refused-all refusedHeader (headerChecks b) (acceptedHeader (headOf (regionOf b))) r t),
+      )
+
+  field-inside : (p long : ℕ) → findField b tag ≡ At (place p) long → (readHeader b .verdict ≡ Good) × (p + long ≤ lengthField b + 12) × (lengthField b + 76 ≤ length b)
+  unfolding readHeader findField
+  field-inside p long e =
+      let t = field-told Good (ap fieldSeen e) in
+      let f = sym (good-all NotShown (headerChecks b) (foundAmong tag (extensionPlace (regionOf b)) (fieldsOf (extensionOf (regionOf b)))) t) ∙ e in
+      let i = field-in-region b tag p long t f in
+      (ap (λ (x : HeaderRead). x .verdict) (good-all refusedHeader (headerChecks b) (acceptedHeader (headOf (regionOf b))) t), i .0, i .1)
 
 -- ---- an offer
 
@@ -227,7 +272,7 @@ module _ (h : Head) (store marks : List ℕ) (j : ℕ) (l : Lent) where
   block-scratch e i o =
       wiped (passes (blockLent h store marks j l)) l _ (h .m * h .s) 1024 (rw (e, lt-leb (h .n) j i, le-ltb (length (l .output)) (h .s) o)) (lengths h store marks l e)
 
--- ---- prefix and missing list
+-- ---- prefix, missing list and ranges
 
 module _ (h : Head) (store marks out : List ℕ) where
   prefix-told : (v : Checked) → prefixSeen (prefixGiven h store marks out .answer) ≡ v → verdict (prefixChecks h store marks out) ≡ v
@@ -249,43 +294,60 @@ module _ (h : Head) (store marks out : List ℕ) where
       let k : length (prefixOf h store marks) ≡ p = ap (λ (y : BytePlace). y .0) q in
       ends cs out (prefixOf h store marks) p t k (omega (arith, ltb-false (length out) (length (prefixOf h store marks)) (passed cs t .1 .0)))
 
-module _ (size n m s : ℕ) (marks out : List ℕ) where
-  missing-told : (v : Checked) → listedSeen (listMissing size n m s marks out .answer) ≡ v → verdict (missingChecks size n m s marks out) ≡ v
+module _ (h : Head) (marks out : List ℕ) where
+  missing-told : (v : Checked) → listedSeen (listMissing h marks out .answer) ≡ v → verdict (missingChecks h marks out) ≡ v
   unfolding listMissing
-  missing-told v e = tells listedSeen NotListed (Count (length (missing n marks))) (λ q. refl) refl (missingChecks size n m s marks out) v e
+  missing-told v e = tells listedSeen NotListed (Count (length (missing (h .n) marks))) (λ q. refl) refl (missingChecks h marks out) v e
 
-  missing-refused : (r : Reason) → listMissing size n m s marks out .answer ≡ NotListed r → Leaves r (71 ∷ 52 ∷ []) out (listMissing size n m s marks out .output)
+  missing-refused : (r : Reason) → listMissing h marks out .answer ≡ NotListed r → Leaves r (71 ∷ 52 ∷ []) out (listMissing h marks out .output)
   unfolding listMissing any
-  missing-refused r e = leaves (missingChecks size n m s marks out) r (71 ∷ 52 ∷ []) out (put out 0 (missing n marks)) (refl, (refl, tt)) (missing-told (Refused r) (ap listedSeen e))
+  missing-refused r e = leaves (missingChecks h marks out) r (71 ∷ 52 ∷ []) out (put out 0 (missing (h .n) marks)) (refl, (refl, tt)) (missing-told (Refused r) (ap listedSeen e))
 
-  missing-ends : (k : ℕ) → listMissing size n m s marks out .answer ≡ Count k → Ends k out (listMissing size n m s marks out .output)
+  missing-ends : (k : ℕ) → listMissing h marks out .answer ≡ Count k → Ends k out (listMissing h marks out .output)
   unfolding listMissing
   missing-ends k e =
-      let cs : List Check = missingChecks size n m s marks out in
+      let cs : List Check = missingChecks h marks out in
       let t = missing-told Good (ap listedSeen e) in
-      let f : _≡_ {A = Listed} (Count (length (missing n marks))) (Count k) = sym (good-all NotListed cs _ t) ∙ e in
-      let q : length (missing n marks) ≡ k = cc in
-      ends cs out (missing n marks) k t q (omega (arith, ltb-false (length out) (length (missing n marks)) (passed cs t .1 .0)))
+      let f : _≡_ {A = Listed} (Count (length (missing (h .n) marks))) (Count k) = sym (good-all NotListed cs _ t) ∙ e in
+      let q : length (missing (h .n) marks) ≡ k = cc in
+      ends cs out (missing (h .n) marks) k t q (omega (arith, ltb-false (length out) (length (missing (h .n) marks)) (passed cs t .1 .0)))
+
+  ranges-told : (v : Checked) → listedSeen (listRanges h marks out .answer) ≡ v → verdict (rangeChecks h marks out) ≡ v
+  unfolding listRanges
+  ranges-told v e = tells listedSeen NotListed (Count (length (boundsFor h marks))) (λ q. refl) refl (rangeChecks h marks out) v e
+
+  ranges-refused : (r : Reason) → listRanges h marks out .answer ≡ NotListed r → Leaves r (71 ∷ 52 ∷ []) out (listRanges h marks out .output)
+  unfolding listRanges any
+  ranges-refused r e = leaves (rangeChecks h marks out) r (71 ∷ 52 ∷ []) out (put out 0 (boundsFor h marks)) (refl, (refl, tt)) (ranges-told (Refused r) (ap listedSeen e))
+
+  ranges-ends : (k : ℕ) → listRanges h marks out .answer ≡ Count k → Ends k out (listRanges h marks out .output)
+  unfolding listRanges
+  ranges-ends k e =
+      let cs : List Check = rangeChecks h marks out in
+      let t = ranges-told Good (ap listedSeen e) in
+      let f : _≡_ {A = Listed} (Count (length (boundsFor h marks))) (Count k) = sym (good-all NotListed cs _ t) ∙ e in
+      let q : length (boundsFor h marks) ≡ k = cc in
+      ends cs out (boundsFor h marks) k t q (omega (arith, ltb-false (length out) (length (boundsFor h marks)) (passed cs t .1 .0)))
 
 -- ---- notes
 
-module _ (uuid : List ℕ) (size n m s : ℕ) (marks out : List ℕ) where
-  note-told : (v : Checked) → writtenSeen (writeNote uuid size n m s marks out .answer) ≡ v → verdict (noteChecks uuid size n m s marks out) ≡ v
+module _ (h : Head) (marks out : List ℕ) where
+  note-told : (v : Checked) → writtenSeen (writeNote h marks out .answer) ≡ v → verdict (noteChecks h marks out) ≡ v
   unfolding writeNote
-  note-told v e = tells writtenSeen NotWritten (Took (length (noteFor uuid n marks))) (λ q. refl) refl (noteChecks uuid size n m s marks out) v e
+  note-told v e = tells writtenSeen NotWritten (Took (length (noteFor h marks))) (λ q. refl) refl (noteChecks h marks out) v e
 
-  note-refused : (r : Reason) → writeNote uuid size n m s marks out .answer ≡ NotWritten r → Leaves r (71 ∷ 52 ∷ []) out (writeNote uuid size n m s marks out .output)
+  note-refused : (r : Reason) → writeNote h marks out .answer ≡ NotWritten r → Leaves r (71 ∷ 52 ∷ []) out (writeNote h marks out .output)
   unfolding writeNote any
-  note-refused r e = leaves (noteChecks uuid size n m s marks out) r (71 ∷ 52 ∷ []) out (put out 0 (noteFor uuid n marks)) (refl, (refl, tt)) (note-told (Refused r) (ap writtenSeen e))
+  note-refused r e = leaves (noteChecks h marks out) r (71 ∷ 52 ∷ []) out (put out 0 (noteFor h marks)) (refl, (refl, tt)) (note-told (Refused r) (ap writtenSeen e))
 
-  note-ends : (k : ℕ) → writeNote uuid size n m s marks out .answer ≡ Took k → Ends k out (writeNote uuid size n m s marks out .output)
+  note-ends : (k : ℕ) → writeNote h marks out .answer ≡ Took k → Ends k out (writeNote h marks out .output)
   unfolding writeNote
   note-ends k e =
-      let cs : List Check = noteChecks uuid size n m s marks out in
+      let cs : List Check = noteChecks h marks out in
       let t = note-told Good (ap writtenSeen e) in
-      let f : _≡_ {A = Written} (Took (length (noteFor uuid n marks))) (Took k) = sym (good-all NotWritten cs _ t) ∙ e in
-      let q : length (noteFor uuid n marks) ≡ k = cc in
-      ends cs out (noteFor uuid n marks) k t q (omega (arith, ltb-false (length out) (length (noteFor uuid n marks)) (passed cs t .1 .0)))
+      let f : _≡_ {A = Written} (Took (length (noteFor h marks))) (Took k) = sym (good-all NotWritten cs _ t) ∙ e in
+      let q : length (noteFor h marks) ≡ k = cc in
+      ends cs out (noteFor h marks) k t q (omega (arith, ltb-false (length out) (length (noteFor h marks)) (passed cs t .1 .0)))
 
 module _ (b out : List ℕ) where
   reading-told : (v : Checked) → readNote b out .answer .verdict ≡ v → verdict (readChecks b out) ≡ v
@@ -331,6 +393,7 @@ pub demand1 : Demand1
 demand1 = record {
   header-refused = header-refused;
   chunk-refused = chunk-refused;
+  field-refused = field-refused;
   field-inside = field-inside;
   offer-numbers = offer-numbers;
   offer-uncounted = offer-uncounted;
@@ -346,6 +409,8 @@ demand1 = record {
   prefix-ends = prefix-ends;
   missing-refused = missing-refused;
   missing-ends = missing-ends;
+  ranges-refused = ranges-refused;
+  ranges-ends = ranges-ends;
   note-refused = note-refused;
   note-ends = note-ends;
   reading-refused = reading-refused;

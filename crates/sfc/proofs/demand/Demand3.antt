@@ -102,7 +102,7 @@ module _ (h : Head) (x : Session) (r : Right h x) where
   open-missing j o = listed j ∙ (rw (lt-ltb (heldIn x) (h .n) (o .few), lt-ltb j (h .n) (o .is-data), ne-eqb (getD (x .marks) j 0) 1 (o .unheld)))
 
   missing-given : (out : List ℕ) → length (missing (h .n) (x .marks)) ≤ length out
-      → _≡_ {A = Answered Listed} (listMissing (h .size) (h .n) (h .m) (h .s) (x .marks) out)
+      → _≡_ {A = Answered Listed} (listMissing h (x .marks) out)
       (record { answer = Count (length (missing (h .n) (x .marks))); output = put out 0 (missing (h .n) (x .marks)) })
   unfolding listMissing lentWrong
   missing-given out l =

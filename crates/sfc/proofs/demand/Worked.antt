@@ -9,8 +9,9 @@ use Rattle.cauchy.proofs.Worked as cauchy
 use Rattle.sfc.specs.format.Limits.{wantedBlocks, unlawful, aboveHouse}
 use Rattle.sfc.specs.session.Lent.{shapeWrong, marksWrong}
 use Rattle.sfc.specs.session.Marks.{heldCount, marksKnown}
-use Rattle.sfc.specs.note.Missing.{unheldFrom, missing, putBefore, ranges, apartFrom}
-use Rattle.sfc.specs.note.Note.{be, bigBytes, pairsBytes, noteOf, writeNote, pairsFrom, malformed, bounds, readNote}
+use Rattle.sfc.specs.note.Missing.{unheldFrom, missing}
+use Rattle.sfc.specs.note.Ranges.{putBefore, ranges, apartFrom, bounds}
+use Rattle.sfc.specs.note.Note.{be, bigBytes, pairsBytes, noteOf, writeNote, pairsFrom, malformed, readNote}
 use Rattle.sfc.specs.demand.Worked.{Worked}
 use Rattle.sfc.proofs.format.LimitLaws.{wanted-none, wanted-some}
 

@@ -1,21 +1,26 @@
--- A field that is found lies in the input. Assumes nothing.
-use Prim.Native.Nat.{ℕ, zero, suc, _+_, _*_, _≤_, _<_}
-use mathlib.Core.Path.{_≡_, refl, ap}
+-- A field that is found lies in the region of an accepted header, and its value is there (specs/format/FieldTheorems.antt). Assumes nothing.
+use Prim.Native.Nat.{ℕ, zero, suc, _+_, _-_, _*_, _≤_}
+use mathlib.Core.Path.{_≡_, refl, sym, ap, ap₂, _∙_}
 use mathlib.Core.Bool.{Bool, true, false, cond}
-use mathlib.Core.List.{List}
+use mathlib.Core.List.{List, [], _∷_}
 use native.Mathlib.Omega.{arith}
-use borrow.Author.Tests.{leb-true}
-use lib.Dec.{leb, eqb}
-use lib.ListN.{length, drop, length-take, length-drop}
+use lib.Dec.{eqb}
+use lib.ListN.{length, take, drop, length-drop}
+use lib.Seq.{drop-drop}
+use Rattle.little.specs.Parts.{part}
 use Rattle.little.specs.Fields.{le}
-use Rattle.little.proofs.TestLaws.{and-both}
-use Rattle.sfc.specs.format.Limits.{lengthWrong}
-use Rattle.sfc.specs.format.Extension.{wholeField}
-use Rattle.sfc.specs.format.Header.{lengthField, regionOf}
+use Rattle.little.proofs.PartLaws.{length-part}
+use Rattle.sfc.specs.answer.Numbers.{verdict}
+use Rattle.sfc.specs.format.Extension.{wholeField, fieldAt, fieldsIn, fieldsOf}
+use Rattle.sfc.specs.format.Header.{lengthField, regionOf, headerChecks}
 use Rattle.sfc.specs.answer.Places.{place}
-use Rattle.sfc.specs.format.Lookup.{foundIn, extensionOf, extensionPlace, findField}
+use Rattle.sfc.specs.format.Lookup.{foundAmong, valueAmong, extensionOf, extensionPlace}
+use Rattle.sfc.specs.format.FieldTheorems.{FieldLookup}
 use Rattle.sfc.specs.declared.answer.places.BytePlace.{BytePlace}
+use Rattle.sfc.specs.declared.answer.reason.Checked.the-variants.{Good}
 use Rattle.sfc.specs.declared.format.lookup.FieldFound.the-variants.{At, Nothing}
+use Rattle.sfc.proofs.format.FieldWalk.{whole-long}
+use Rattle.sfc.proofs.format.LookupLaws.{fields-inside}
 
 not-found : {A : Type 0} (p : BytePlace) (n : ℕ) → Nothing ≡ At p n → A
 not-found p n e = absurd (let z : _≡_ {A = ℕ} 0 1 = cc in omega arith)
@@ -26,40 +31,69 @@ same-found p q n k e =
     let b : n ≡ k = cc in
     (ap (λ (y : BytePlace). y .0) a, b)
 
-whole-long : (e : List ℕ) → wholeField e ≡ true → 6 + le e 2 4 ≤ length e
-unfolding wholeField
-whole-long e w = leb-true (6 + le e 2 4) (length e) (and-both (leb 6 (length e)) (leb (6 + le e 2 4) (length e)) w .1)
-
 -- among fields whose first byte is at place `at`
-found-inside : (most tag at : ℕ) (e : List ℕ) (p n : ℕ) → foundIn most tag at e ≡ At (place p) n → (0 < length e) × (p + n ≤ at + length e)
-unfolding foundIn
+found-inside : (most tag at : ℕ) (e : List ℕ) (p n : ℕ) → foundAmong tag at (fieldsIn most e) ≡ At (place p) n → p + n ≤ at + length e
+unfolding foundAmong fieldsIn
 found-inside zero tag at e p n f = not-found (place p) n f
-found-inside (suc most) tag at e p n f = go (wholeField e) refl (eqb (le e 0 2) tag) (λ g. found-inside most tag (at + 6 + le e 2 4) (drop (6 + le e 2 4) e) p n g) f
+found-inside (suc most) tag at e p n f = go (wholeField e) refl (λ k g. found-inside most tag k (drop (6 + le e 2 4) e) p n g) f
   where
-    go : (w : Bool) → wholeField e ≡ w → (t : Bool)
-        → (foundIn most tag (at + 6 + le e 2 4) (drop (6 + le e 2 4) e) ≡ At (place p) n
-        → (0 < length (drop (6 + le e 2 4) e)) × (p + n ≤ at + 6 + le e 2 4 + length (drop (6 + le e 2 4) e)))
-        → cond w (cond t (At (place (at + 6)) (le e 2 4)) (foundIn most tag (at + 6 + le e 2 4) (drop (6 + le e 2 4) e))) Nothing ≡ At (place p) n
-        → (0 < length e) × (p + n ≤ at + length e)
-    go false q t rec g = not-found (place p) n g
-    go true q true rec g =
-        let s = same-found (at + 6) p (le e 2 4) n g in
-        (omega (arith, whole-long e q), omega (arith, whole-long e q, s .0, s .1))
-    go true q false rec g = (omega (arith, whole-long e q), omega (arith, whole-long e q, rec g .1, length-drop (6 + le e 2 4) e))
+    first : wholeField e ≡ true → (t : Bool)
+        → ((k : ℕ) → foundAmong tag k (fieldsIn most (drop (6 + le e 2 4) e)) ≡ At (place p) n → p + n ≤ k + length (drop (6 + le e 2 4) e))
+        → cond t (At (place (at + 6)) (length (part e 6 (le e 2 4)))) (foundAmong tag (at + 6 + length (part e 6 (le e 2 4))) (fieldsIn most (drop (6 + le e 2 4) e))) ≡ At (place p) n
+        → p + n ≤ at + length e
+    first q true after g =
+        let s = same-found (at + 6) p (length (part e 6 (le e 2 4))) n g in
+        omega (arith, whole-long e q, length-part e 6 (le e 2 4) (whole-long e q), s .0, s .1)
+    first q false after g =
+        omega (arith, whole-long e q, length-part e 6 (le e 2 4) (whole-long e q), after (at + 6 + length (part e 6 (le e 2 4))) g, length-drop (6 + le e 2 4) e)
 
-pub field-inside : (b : List ℕ) (tag p long : ℕ) → findField b tag ≡ At (place p) long → p + long ≤ length b
-unfolding findField
-field-inside b tag p long e = go (lengthWrong (lengthField b)) e
+    go : (w : Bool) → wholeField e ≡ w
+        → ((k : ℕ) → foundAmong tag k (fieldsIn most (drop (6 + le e 2 4) e)) ≡ At (place p) n → p + n ≤ k + length (drop (6 + le e 2 4) e))
+        → foundAmong tag at (cond w (fieldAt e ∷ fieldsIn most (drop (6 + le e 2 4) e)) []) ≡ At (place p) n → p + n ≤ at + length e
+    go true q after g = first q (eqb (le e 0 2) tag) after g
+    go false q after g = not-found (place p) n g
+
+-- in a header that the reader accepts
+pub field-in-region : (b : List ℕ) (tag p long : ℕ) → verdict (headerChecks b) ≡ Good
+    → foundAmong tag (extensionPlace (regionOf b)) (fieldsOf (extensionOf (regionOf b))) ≡ At (place p) long
+    → (p + long ≤ lengthField b + 12) × (lengthField b + 76 ≤ length b)
+field-in-region b tag p long good f =
+    let i = fields-inside b good in
+    let n = found-inside (length (extensionOf (regionOf b))) tag (extensionPlace (regionOf b)) (extensionOf (regionOf b)) p long f in
+    let l : length (regionOf b) ≡ lengthField b + 4 = length-part b 8 (lengthField b + 4) (omega (arith, i .trailer-room)) in
+    (omega (arith, n, l, i .list-ends, length-drop (335 + 4 * le (regionOf b) 333 2) (regionOf b)), i .trailer-room)
+
+-- ---- its value is there
+
+value-in : (most tag at : ℕ) (e : List ℕ) (p n : ℕ) → foundAmong tag at (fieldsIn most e) ≡ At (place p) n
+    → (at ≤ p) × (part e (p - at) n ≡ valueAmong tag (fieldsIn most e))
+unfolding foundAmong valueAmong fieldsIn
+value-in zero tag at e p n f = not-found (place p) n f
+value-in (suc most) tag at e p n f = go (wholeField e) refl (λ k g. value-in most tag k (drop (6 + le e 2 4) e) p n g) f
   where
-    go : (w : Bool) → cond w Nothing (foundIn (length (extensionOf (regionOf b))) tag (extensionPlace (regionOf b)) (extensionOf (regionOf b))) ≡ At (place p) long → p + long ≤ length b
-    go true f = not-found (place p) long f
-    go false f =
-        let i = found-inside (length (extensionOf (regionOf b))) tag (extensionPlace (regionOf b)) (extensionOf (regionOf b)) p long f in
-        omega (
-          arith,
-          i .0,
-          i .1,
-          length-drop (335 + 4 * le (regionOf b) 333 2) (regionOf b),
-          length-take (lengthField b + 4) (drop 8 b),
-          length-drop 8 b,
-        )
+    first : wholeField e ≡ true → (t : Bool)
+        → ((k : ℕ) → foundAmong tag k (fieldsIn most (drop (6 + le e 2 4) e)) ≡ At (place p) n
+        → (k ≤ p) × (part (drop (6 + le e 2 4) e) (p - k) n ≡ valueAmong tag (fieldsIn most (drop (6 + le e 2 4) e))))
+        → cond t (At (place (at + 6)) (length (part e 6 (le e 2 4)))) (foundAmong tag (at + 6 + length (part e 6 (le e 2 4))) (fieldsIn most (drop (6 + le e 2 4) e))) ≡ At (place p) n
+        → (at ≤ p) × (part e (p - at) n ≡ cond t (part e 6 (le e 2 4)) (valueAmong tag (fieldsIn most (drop (6 + le e 2 4) e))))
+    first q true after g =
+        let s = same-found (at + 6) p (length (part e 6 (le e 2 4))) n g in
+        let i : p - at ≡ 6 = omega (arith, s .0) in
+        let v : n ≡ le e 2 4 = sym (s .1) ∙ length-part e 6 (le e 2 4) (whole-long e q) in
+        (omega (arith, s .0), ap₂ (λ (j k : ℕ). part e j k) i v)
+    first q false after g =
+        let r = after (at + 6 + length (part e 6 (le e 2 4))) g in
+        let v = length-part e 6 (le e 2 4) (whole-long e q) in
+        let i : p - at ≡ 6 + le e 2 4 + (p - (at + 6 + length (part e 6 (le e 2 4)))) = omega (arith, r .0, v) in
+        (omega (arith, r .0), ap (λ (j : ℕ). part e j n) i ∙ ap (take n) (sym (drop-drop (p - (at + 6 + length (part e 6 (le e 2 4)))) (6 + le e 2 4) e)) ∙ r .1)
+
+    go : (w : Bool) → wholeField e ≡ w
+        → ((k : ℕ) → foundAmong tag k (fieldsIn most (drop (6 + le e 2 4) e)) ≡ At (place p) n
+        → (k ≤ p) × (part (drop (6 + le e 2 4) e) (p - k) n ≡ valueAmong tag (fieldsIn most (drop (6 + le e 2 4) e))))
+        → foundAmong tag at (cond w (fieldAt e ∷ fieldsIn most (drop (6 + le e 2 4) e)) []) ≡ At (place p) n
+        → (at ≤ p) × (part e (p - at) n ≡ valueAmong tag (cond w (fieldAt e ∷ fieldsIn most (drop (6 + le e 2 4) e)) []))
+    go true q after g = first q (eqb (le e 0 2) tag) after g
+    go false q after g = not-found (place p) n g
+
+pub field-lookup : FieldLookup
+field-lookup = record { value-there = λ e tag at p long f. value-in (length e) tag at e p long f }

@@ -1,73 +1,72 @@
--- The walk that looks for a field, and the part of the input that it walks over. Assumes nothing.
+-- The walk that looks for a field, and the part of an accepted input that it walks over. Assumes nothing.
 use Prim.Native.Nat.{ℕ, zero, suc, _+_, _-_, _*_, _<_, _≤_}
-use mathlib.Core.Path.{_≡_, sym, ap, ap₂, _∙_}
-use mathlib.Core.Bool.{true, false}
+use mathlib.Core.Path.{_≡_, refl, sym, ap, ap₂, _∙_}
+use mathlib.Core.Bool.{cond}
 use mathlib.Core.List.{List, [], _∷_}
-use mathlib.Core.Logic.{_⊎_, ⊎-elim}
 use native.Mathlib.Omega.{arith}
 use borrow.Author.Tests.{eq-eqb, ne-eqb, ltb-false}
-use lib.Dec.{ltb}
-use lib.ListN.{length, take, drop, length-take, length-drop}
+use lib.Dec.{ltb, eqb}
+use lib.ListN.{length, take, drop, drop-of-length-le}
 use lib.Seq.{drop-drop, take-all}
 use Rattle.little.specs.Parts.{part}
 use Rattle.little.specs.Fields.{le}
+use Rattle.little.proofs.PartLaws.{length-part}
 use Rattle.little.proofs.FieldLaws.{le-part}
 use Rattle.little.proofs.TestLaws.{or-false}
+use Rattle.sfc.specs.answer.Numbers.{verdict}
 use Rattle.sfc.specs.format.Limits.{lengthWrong}
-use Rattle.sfc.specs.format.Extension.{wholeField}
-use Rattle.sfc.specs.format.Header.{lengthField, regionOf}
-use Rattle.sfc.specs.format.Lookup.{foundIn, extensionOf, extensionPlace, findField}
+use Rattle.sfc.specs.format.Extension.{nextField, fieldsIn, fieldsOf}
+use Rattle.sfc.specs.format.Header.{headOf, lengthField, regionOf, headerChecks, refusedHeader, acceptedHeader, readHeader}
+use Rattle.sfc.specs.answer.Places.{place}
+use Rattle.sfc.specs.format.Lookup.{foundAmong, extensionOf, extensionPlace, findField}
+use Rattle.sfc.specs.declared.answer.reason.Reason.{Reason}
+use Rattle.sfc.specs.declared.answer.reason.Checked.{Checked}
+use Rattle.sfc.specs.declared.answer.reason.Checked.the-variants.{Good, Refused}
+use Rattle.sfc.specs.declared.format.header.Head.{Head}
+use Rattle.sfc.specs.declared.format.header.HeaderRead.{HeaderRead}
 use Rattle.sfc.specs.declared.format.lookup.FieldFound.{FieldFound}
-use Rattle.sfc.specs.declared.format.lookup.FieldFound.the-variants.{At, Nothing}
-use Rattle.sfc.proofs.format.ExtensionLaws.{not-whole-head, not-whole-value, is-whole}
+use Rattle.sfc.specs.declared.format.lookup.FieldFound.the-variants.{At, Nothing, Refused as NotShown}
+use Rattle.sfc.proofs.answer.CheckLaws.{passed, good-all, refused-all, tells}
+use Rattle.sfc.proofs.format.HeaderLaws.{priority-inside}
+use Rattle.sfc.proofs.format.FieldWalk.{none-there, value-long, next-inside, field-there}
 
 module _ (tag start : ℕ) (e : List ℕ) where
   -- what is to be found from place `at` on is what is to be found at all
-  pub Walking : ℕ → ℕ → Type 0
-  Walking most at = (at ≤ length e) × (foundIn most tag (start + at) (drop at e) ≡ foundIn (length e) tag start e)
+  pub Walking : ℕ → Type 0
+  Walking at = (at ≤ length e) × (foundAmong tag (start + at) (fieldsOf (drop at e)) ≡ foundAmong tag start (fieldsOf e))
 
-  pub walking-start : Walking (length e) 0
+  pub walking-start : Walking 0
   unfolding Walking
   walking-start = let s : start + 0 ≡ start = omega arith in (omega arith, rw s)
 
-  pub walking-inside : (most at : ℕ) → Walking most at → at ≤ length e
-  unfolding Walking
-  walking-inside most at w = w .0
+  pub walking-end : (at : ℕ) → length e ≤ at → Walking at → Nothing ≡ foundAmong tag start (fieldsOf e)
+  unfolding Walking fieldsIn foundAmong
+  walking-end at h w = rw (drop-of-length-le e {i = at} h) at (w .1)
 
-  pub walking-end : (most at : ℕ) → most ≤ 0 → Walking most at → Nothing ≡ foundIn (length e) tag start e
-  unfolding Walking foundIn
-  walking-end zero at h w = w .1
-  walking-end (suc most) at h w = absurd (omega arith)
-
-  module _ (most at : ℕ) (t : List ℕ) (more : 0 < most) (w : Walking most at) (rest : t ≡ drop at e) where
-    here : foundIn (suc (most - 1)) tag (start + at) t ≡ foundIn (length e) tag start e
+  module _ (at : ℕ) (t : List ℕ) (next : ℕ) (w : Walking at) (rest : t ≡ drop at e) (says : next ≡ nextField t) where
+    here : foundAmong tag (start + at) (fieldsOf t) ≡ foundAmong tag start (fieldsOf e)
     unfolding Walking
-    here = let d : most ≡ suc (most - 1) = omega arith in rw (rest, ← d) (w .1)
+    here = rw rest (w .1)
 
-    not-whole : wholeField t ≡ false → Nothing ≡ foundIn (length e) tag start e
-    unfolding foundIn
-    not-whole h = rw h at here
+    pub none-left : next ≡ 0 → Nothing ≡ foundAmong tag start (fieldsOf e)
+    unfolding foundAmong
+    none-left z = rw (none-there e t at next rest says z .0) at here
 
-    pub cut-head : length t < 6 → Nothing ≡ foundIn (length e) tag start e
-    cut-head h = not-whole (not-whole-head t h)
+    module _ (some : next ≡ 0 → ⊥) where
+      by-field : cond (eqb (le t 0 2) tag) (At (place (start + at + 6)) (next - 6)) (foundAmong tag (start + at + 6 + (next - 6)) (fieldsOf (drop (at + next) e)))
+          ≡ foundAmong tag start (fieldsOf e)
+      unfolding foundAmong
+      by-field = rw (value-long e t at next rest says some) at (rw (field-there e t at next rest says some) at here)
 
-    pub cut-value : 6 ≤ length t → length t - 6 < le t 2 4 → Nothing ≡ foundIn (length e) tag start e
-    cut-value h k = not-whole (not-whole-value t h k)
+      pub found : le t 0 2 ≡ tag → At (place (start + (at + 6))) (next - 6) ≡ foundAmong tag start (fieldsOf e)
+      found q = let s : start + at + 6 ≡ start + (at + 6) = omega arith in rw (eq-eqb (le t 0 2) tag q, s) at by-field
 
-    module _ (h : 6 ≤ length t) (k : le t 2 4 ≤ length t - 6) where
-      pub found : le t 0 2 ≡ tag → At (record { 0 = start + at + 6 }) (le t 2 4) ≡ foundIn (length e) tag start e
-      unfolding foundIn
-      found q = rw (is-whole t h k, eq-eqb (le t 0 2) tag q) at here
-
-      pub not-this : (le t 0 2 ≡ tag → ⊥) → Walking (most - 1) (at + 6 + le t 2 4)
-      unfolding Walking foundIn
+      pub not-this : (le t 0 2 ≡ tag → ⊥) → Walking (at + next)
+      unfolding Walking
       not-this q =
-          let l : length t ≡ length e - at = ap length rest ∙ length-drop at e in
-          let n : at + (6 + le t 2 4) ≡ at + 6 + le t 2 4 = omega arith in
-          let d : drop (6 + le t 2 4) t ≡ drop (at + 6 + le t 2 4) e =
-          ap (drop (6 + le t 2 4)) rest ∙ drop-drop (6 + le t 2 4) at e ∙ ap (λ (j : ℕ). drop j e) n in
-          let s : start + at + 6 + le t 2 4 ≡ start + (at + 6 + le t 2 4) = omega arith in
-          (omega arith, (rw (is-whole t h k, ne-eqb (le t 0 2) tag q, d, s) at here))
+          let i = next-inside e t at next rest says some in
+          let s : start + at + 6 + (next - 6) ≡ start + (at + next) = omega arith in
+          (i .1, (rw (ne-eqb (le t 0 2) tag q, s) at by-field))
 
 -- ---- the part of the input
 
@@ -81,58 +80,68 @@ drop-part xs from n k = drop-take k n (drop from xs) ∙ ap (take (n - k)) (drop
     drop-take (suc i) (suc m) [] = sym (take-all (suc m - suc i) [] (omega arith))
     drop-take (suc i) (suc m) (x ∷ l) = let e : m - i ≡ suc m - suc i = omega arith in drop-take i m l ∙ ap (λ (j : ℕ). take j (drop i l)) e
 
--- the part lies where places of 32 bits reach
-pub part-low : (b : List ℕ) (h n end : ℕ) → lengthWrong h ≡ false → n ≤ end → ((end ≡ 12 + h) × (end ≤ length b)) ⊎ ((end ≡ length b) × (end ≤ 12 + h))
-    → n + length (part b n (end - n)) < 2147483648
+-- the fields of an accepted header lie in its region, which leaves room for a trailer
+pub record Inside (b : List ℕ) (h p : ℕ) : Type 0 where
+  pub length-right : 331 ≤ h
+  pub length-low : h ≤ 65536
+  pub list-ends : 335 + 4 * p ≤ h + 4
+  pub trailer-room : h + 76 ≤ length b
+
+-- the part that the code walks over lies where places of 32 bits reach
+pub part-low : (b : List ℕ) (h p : ℕ) → Inside b h p → 343 + 4 * p + length (part b (343 + 4 * p) (12 + h - (343 + 4 * p))) < 2147483648
+part-low b h p i = omega (arith, i .length-low, i .list-ends, length-part b (343 + 4 * p) (12 + h - (343 + 4 * p)) (omega (arith, i .list-ends, i .trailer-room)))
+
+pub fields-inside : (b : List ℕ) → verdict (headerChecks b) ≡ Good → Inside b (lengthField b) (le (regionOf b) 333 2)
 unfolding lengthWrong
-part-low b h n end good u o =
-    let m = ltb-false 65536 h (or-false (ltb h 331) (ltb 65536 h) good .1) in
-    let e : end ≤ 12 + h = ⊎-elim (λ w. omega arith) (λ w. omega arith) o in
-    simp length-take (omega arith)
+fields-inside b good =
+    let q = passed (headerChecks b) good in
+    let range = or-false (ltb (lengthField b) 331) (ltb 65536 (lengthField b)) (q .1 .1 .1 .0) in
+    let room : lengthField b + 76 ≤ length b = ltb-false (length b) (lengthField b + 76) (q .1 .1 .1 .1 .0) in
+    let long : length (regionOf b) ≡ lengthField b + 4 = length-part b 8 (lengthField b + 4) (omega arith) in
+    let list = priority-inside (le (regionOf b) 317 4) (le (regionOf b) 333 2) (regionOf b) (q .1 .1 .1 .1 .1 .1 .1 .1 .1 .1 .1 .0) in
+    record {
+      length-right = ltb-false (lengthField b) 331 (range .0);
+      length-low = ltb-false 65536 (lengthField b) (range .1);
+      list-ends = omega arith;
+      trailer-room = room;
+    }
 
--- a part that reaches the end, however far it was asked to go
-part-end : (xs : List ℕ) (at n : ℕ) → length xs ≤ at + n → part xs at n ≡ drop at xs
-part-end xs at n h = take-all n (drop at xs) (omega (arith, length-drop at xs))
+-- ---- the call: x is what `read_header` says of b
 
-module _ (b : List ℕ) (tag h p : ℕ) (eh : h ≡ lengthField b) (ep : p ≡ le b 341 2) where
-  pub no-region : lengthWrong h ≡ true → Nothing ≡ findField b tag
+module _ (b : List ℕ) (tag : ℕ) (x : HeaderRead) (says : x ≡ readHeader b) where
+  told : (v : Checked) → x .verdict ≡ v → verdict (headerChecks b) ≡ v
+  unfolding readHeader
+  told v e =
+      tells (λ (y : HeaderRead). y .verdict) refusedHeader (acceptedHeader (headOf (regionOf b))) (λ q. refl) refl (headerChecks b) v
+      (sym (ap (λ (y : HeaderRead). y .verdict) says) ∙ e)
+
+  pub refused-field : (r : Reason) → x .verdict ≡ Refused r → NotShown r ≡ findField b tag
   unfolding findField
-  no-region w = rw (← eh, w)
+  refused-field r e = sym (refused-all NotShown (headerChecks b) (foundAmong tag (extensionPlace (regionOf b)) (fieldsOf (extensionOf (regionOf b)))) r (told (Refused r) e))
 
-  module _ (good : lengthWrong h ≡ false) where
-    long : 331 ≤ h
-    unfolding lengthWrong
-    long = omega (arith, ltb-false h 331 (or-false _ _ good .0))
+  module _ (good : x .verdict ≡ Good) where
+    head : x .head ≡ headOf (regionOf b)
+    unfolding readHeader
+    head = ap (λ (y : HeaderRead). y .head) (says ∙ good-all refusedHeader (headerChecks b) (acceptedHeader (headOf (regionOf b))) (told Good good))
 
-    same-count : le (regionOf b) 333 2 ≡ p
-    same-count = le-part 2 b 8 (lengthField b + 4) 333 (omega (arith, eh, long)) ∙ sym ep
+    same-count : x .head .priorities ≡ le (regionOf b) 333 2
+    same-count = ap (λ (h : Head). h .priorities) head
 
-    extension : extensionOf (regionOf b) ≡ part b (343 + 4 * p) (12 + h - (343 + 4 * p))
-    extension =
-        let e : 8 + (335 + 4 * le (regionOf b) 333 2) ≡ 343 + 4 * p = omega (arith, same-count) in
-        let f : lengthField b + 4 - (335 + 4 * le (regionOf b) 333 2) ≡ 12 + h - (343 + 4 * p) = omega (arith, same-count, eh) in
-        drop-part b 8 (lengthField b + 4) (335 + 4 * le (regionOf b) 333 2) ∙ ap₂ (λ (i n : ℕ). part b i n) e f
+    same-length : x .head .«header_length» ≡ lengthField b
+    same-length = ap (λ (h : Head). h .«header_length») head ∙ le-part 4 b 8 (lengthField b + 4) 0 (omega arith)
 
-    asked : (n : ℕ) → n ≡ 343 + 4 * p → foundIn (length (part b n (12 + h - n))) tag n (part b n (12 + h - n)) ≡ findField b tag
-    unfolding findField
-    asked n en =
-        let k : extensionPlace (regionOf b) ≡ 343 + 4 * p = ap (λ (q : ℕ). 343 + 4 * q) same-count in
-        rw (en, extension, k, ← eh, good)
-
-    -- the input, or its region, ends before the fields begin
-    pub no-fields : (n end : ℕ) → n ≡ 343 + 4 * p → end < n → ((end ≡ 12 + h) × (end ≤ length b)) ⊎ ((end ≡ length b) × (end ≤ 12 + h)) → Nothing ≡ findField b tag
-    unfolding foundIn
-    no-fields n end en u o =
-        let z : length (part b n (12 + h - n)) ≡ 0 =
-        ⊎-elim (λ (q : (end ≡ 12 + h) × (end ≤ length b)). let v : 12 + h - n ≡ 0 = omega arith in ap (λ (m : ℕ). length (part b n m)) v)
-        (λ (q : (end ≡ length b) × (end ≤ 12 + h)). omega (arith, length-take (12 + h - n) (drop n b), length-drop n b)) o in
-        (rw z at (asked n en))
+    pub inside : Inside b (x .head .«header_length») (x .head .priorities)
+    inside = rw (same-length, same-count) (fields-inside b (told Good good))
 
     -- the fields lie in the part that the code walks over
-    pub find-in : (n end : ℕ) (r : FieldFound) → n ≡ 343 + 4 * p → n ≤ end → ((end ≡ 12 + h) × (end ≤ length b)) ⊎ ((end ≡ length b) × (end ≤ 12 + h))
-        → r ≡ foundIn (length (part b n (end - n))) tag n (part b n (end - n)) → r ≡ findField b tag
-    find-in n end r en u o er =
-        let q : part b n (end - n) ≡ part b n (12 + h - n) =
-        ⊎-elim (λ (w : (end ≡ 12 + h) × (end ≤ length b)). ap (λ (m : ℕ). part b n (m - n)) (w .0))
-        (λ (w : (end ≡ length b) × (end ≤ 12 + h)). part-end b n (end - n) (omega arith) ∙ sym (part-end b n (12 + h - n) (omega arith))) o in
-        er ∙ ap (λ (l : List ℕ). foundIn (length l) tag n l) q ∙ asked n en
+    pub shown-field : (from end : ℕ) (r : FieldFound) → from ≡ 343 + 4 * x .head .priorities → end ≡ 12 + x .head .«header_length»
+        → r ≡ foundAmong tag from (fieldsOf (part b from (end - from))) → r ≡ findField b tag
+    unfolding findField
+    shown-field from end r ef ee er =
+        let p : ℕ = le (regionOf b) 333 2 in
+        let i : 8 + (335 + 4 * p) ≡ from = omega (arith, same-count) in
+        let n : lengthField b + 4 - (335 + 4 * p) ≡ end - from = omega (arith, same-count, same-length) in
+        let k : extensionPlace (regionOf b) ≡ from = omega (arith, same-count) in
+        let l : extensionOf (regionOf b) ≡ part b from (end - from) = drop-part b 8 (lengthField b + 4) (335 + 4 * p) ∙ ap₂ (λ (at m : ℕ). part b at m) i n in
+        er ∙ sym (ap₂ (λ (at : ℕ) (e : List ℕ). foundAmong tag at (fieldsOf e)) k l)
+        ∙ sym (good-all NotShown (headerChecks b) (foundAmong tag (extensionPlace (regionOf b)) (fieldsOf (extensionOf (regionOf b)))) (told Good good))

@@ -1,67 +1,53 @@
 -- The walk that looks for a field with a reserved tag, and the name that has no zero byte. Assumes nothing.
-use Prim.Native.Nat.{ℕ, zero, suc, _+_, _-_, _<_, _≤_}
+use Prim.Native.Nat.{ℕ, zero, suc, _+_, _≤_}
 use mathlib.Core.Path.{_≡_, refl, sym, ap, _∙_}
 use mathlib.Core.Bool.{Bool, true, false, _&&_, _||_}
 use mathlib.Core.List.{List, [], _∷_}
 use native.Mathlib.Omega.{arith}
 use borrow.Author.Tests.{lt-ltb, ne-eqb}
 use lib.Dec.{ltb, leb, eqb}
-use lib.ListN.{length, drop, length-drop}
-use lib.Seq.{drop-drop}
+use lib.ListN.{length, drop, drop-of-length-le}
 use Rattle.little.specs.Fields.{le}
 use Rattle.little.proofs.TestLaws.{ltb-suc}
 use Rattle.sfc.specs.format.Bytes.{beforeZero}
 use Rattle.little.specs.Runs.{any}
-use Rattle.sfc.specs.format.Extension.{wholeField, fieldsIn}
+use Rattle.sfc.specs.format.Extension.{fieldAt, nextField, fieldsIn, fieldsOf}
 use Rattle.sfc.specs.writing.Writer.{isReserved, hasReserved, nameWrong}
-use Rattle.sfc.proofs.format.ExtensionLaws.{not-whole-head, not-whole-value, is-whole}
+use Rattle.sfc.proofs.format.FieldWalk.{none-there, next-inside, field-there}
 
 module _ (e : List ℕ) where
   -- what is to be found from place `at` on is what is to be found at all
-  pub Searching : ℕ → ℕ → Type 0
-  Searching most at = (at ≤ length e) × (any isReserved (fieldsIn most (drop at e)) ≡ hasReserved e)
+  pub Searching : ℕ → Type 0
+  Searching at = (at ≤ length e) × (any isReserved (fieldsOf (drop at e)) ≡ hasReserved e)
 
-  pub searching-start : Searching (length e) 0
+  pub searching-start : Searching 0
   unfolding Searching hasReserved
   searching-start = (omega arith, refl)
 
-  pub searching-inside : (most at : ℕ) → Searching most at → at ≤ length e
-  unfolding Searching
-  searching-inside most at w = w .0
-
-  pub searching-end : (most at : ℕ) → most ≤ 0 → Searching most at → false ≡ hasReserved e
+  pub searching-end : (at : ℕ) → length e ≤ at → Searching at → false ≡ hasReserved e
   unfolding Searching fieldsIn any
-  searching-end zero at h w = w .1
-  searching-end (suc most) at h w = absurd (omega arith)
+  searching-end at h w = rw (drop-of-length-le e {i = at} h) at (w .1)
 
-  module _ (most at : ℕ) (t : List ℕ) (more : 0 < most) (w : Searching most at) (rest : t ≡ drop at e) where
-    here : any isReserved (fieldsIn (suc (most - 1)) t) ≡ hasReserved e
+  module _ (at : ℕ) (t : List ℕ) (next : ℕ) (w : Searching at) (rest : t ≡ drop at e) (says : next ≡ nextField t) where
+    here : any isReserved (fieldsOf t) ≡ hasReserved e
     unfolding Searching
-    here = let d : most ≡ suc (most - 1) = omega arith in rw (rest, ← d) (w .1)
+    here = rw rest (w .1)
 
-    not-whole : wholeField t ≡ false → false ≡ hasReserved e
-    unfolding fieldsIn any
-    not-whole h = rw h at here
+    pub none-left : next ≡ 0 → false ≡ hasReserved e
+    unfolding any
+    none-left z = rw (none-there e t at next rest says z .0) at here
 
-    pub split-cut-head : length t < 6 → false ≡ hasReserved e
-    split-cut-head h = not-whole (not-whole-head t h)
+    module _ (some : next ≡ 0 → ⊥) where
+      by-field : (isReserved (fieldAt t) || any isReserved (fieldsOf (drop (at + next) e))) ≡ hasReserved e
+      unfolding any
+      by-field = rw (field-there e t at next rest says some) at here
 
-    pub split-cut-value : 6 ≤ length t → length t - 6 < le t 2 4 → false ≡ hasReserved e
-    split-cut-value h k = not-whole (not-whole-value t h k)
+      pub reserved-found : (leb 16 (le t 0 2) && leb (le t 0 2) 18) ≡ true → true ≡ hasReserved e
+      reserved-found q = rw q at by-field
 
-    module _ (h : 6 ≤ length t) (k : le t 2 4 ≤ length t - 6) where
-      pub split-found : (leb 16 (le t 0 2) && leb (le t 0 2) 18) ≡ true → true ≡ hasReserved e
-      unfolding fieldsIn any
-      split-found q = rw (is-whole t h k, q) at here
-
-      pub split-not-this : (leb 16 (le t 0 2) && leb (le t 0 2) 18) ≡ false → Searching (most - 1) (at + 6 + le t 2 4)
-      unfolding Searching fieldsIn any
-      split-not-this q =
-          let l : length t ≡ length e - at = ap length rest ∙ length-drop at e in
-          let n : at + (6 + le t 2 4) ≡ at + 6 + le t 2 4 = omega arith in
-          let d : drop (6 + le t 2 4) t ≡ drop (at + 6 + le t 2 4) e =
-          ap (drop (6 + le t 2 4)) rest ∙ drop-drop (6 + le t 2 4) at e ∙ ap (λ (j : ℕ). drop j e) n in
-          (omega arith, (rw (is-whole t h k, q, d) at here))
+      pub not-reserved-here : (leb 16 (le t 0 2) && leb (le t 0 2) 18) ≡ false → Searching (at + next)
+      unfolding Searching
+      not-reserved-here q = (next-inside e t at next rest says some .1, (rw q at by-field))
 
 -- a zero byte cuts a name short
 zero-cuts : (b : List ℕ) → ltb (length (beforeZero b)) (length b) ≡ any (eqb 0) b

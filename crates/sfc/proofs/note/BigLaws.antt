@@ -6,10 +6,10 @@ use native.Mathlib.Nat.{le-trans, pow-le-pow-right, pow-suc}
 use native.Mathlib.Omega.{arith}
 use lib.Dec.{lit<}
 use lib.ListN.{length, getD, set, take, drop, length-append, length-drop}
-use lib.Seq.{getD-append-add, getD-drop, take-suc, append-snoc, drop-length}
+use lib.Seq.{getD-append-add, getD-drop, take-suc, append-snoc, drop-length, length-take-le, drop-at, drop-drop}
 use Rattle.little.specs.Parts.{part, put}
 use Rattle.little.specs.Fields.{Bytes}
-use Rattle.little.proofs.PartLaws.{lent, length-part}
+use Rattle.little.proofs.PartLaws.{lent, length-part, length-put}
 use Rattle.sfc.specs.note.Note.{be, bigBytes}
 use Rattle.little.proofs.ListLaws.{drop-set}
 
@@ -23,7 +23,7 @@ be-bound (suc width) b h at = rw pow-suc (omega (arith, h (at + width), be-bound
 pub be-most : (b : List ℕ) → Bytes b → (at : ℕ) {width most : ℕ} → width ≤ most → be b at width < 256 ^ most
 be-most b h at {width} {most} k = le-trans (be-bound width b h at) (pow-le-pow-right (lit< tt) k)
 
--- two lists with the same bytes there have the same number there
+-- two lists with the same bytes there say the same there
 pub be-same : (width : ℕ) (b c : List ℕ) (at at′ : ℕ) → ((k : ℕ) → k < width → getD b (at + k) 0 ≡ getD c (at′ + k) 0)
     → be b at width ≡ be c at′ width
 unfolding be
@@ -31,7 +31,7 @@ be-same zero b c at at′ h = refl
 be-same (suc width) b c at at′ h =
     ap₂ (λ (r x : ℕ). r * 256 + x) (be-same width b c at at′ (λ k u. h k (omega arith))) (h width (omega arith))
 
--- a number behind a list of n bytes
+-- a field after a list of n bytes
 pub be-skip : (a b : List ℕ) (n at width : ℕ) → length a ≡ n → be (a ++ b) (n + at) width ≡ be b at width
 be-skip a b n at width e =
     be-same width (a ++ b) b (n + at) at
@@ -39,26 +39,26 @@ be-skip a b n at width e =
     let f : n + at + k ≡ length a + (at + k) = omega arith in
     ap (λ (j : ℕ). getD (a ++ b) j 0) f ∙ getD-append-add a b (at + k) 0)
 
--- ---- the bytes of a number
+-- ---- the bytes of a value
 
 pub length-big : (width v : ℕ) → length (bigBytes width v) ≡ width
 unfolding bigBytes
 length-big zero v = refl
 length-big (suc width) v = length-append (bigBytes width (v / 256)) (v % 256 ∷ []) ∙ omega (arith, length-big width (v / 256))
 
--- a number's bytes give it back, if the width holds it
-pub value-back : (width v : ℕ) → v < 256 ^ width → (behind : List ℕ) → be (bigBytes width v ++ behind) 0 width ≡ v
+-- a value's bytes give it back, if the width holds it
+pub value-back : (width v : ℕ) → v < 256 ^ width → (tail : List ℕ) → be (bigBytes width v ++ tail) 0 width ≡ v
 unfolding be bigBytes
-value-back zero v h behind = omega arith
-value-back (suc width) v h behind =
+value-back zero v h tail = omega arith
+value-back (suc width) v h tail =
     let p : 256 ^ suc width ≡ 256 ^ width * 256 = pow-suc _ _ in
     let l = length-big width (v / 256) in
-    let e : bigBytes width (v / 256) ++ (v % 256 ∷ []) ++ behind ≡ bigBytes width (v / 256) ++ v % 256 ∷ behind = append-snoc (bigBytes width (v / 256)) (v % 256) behind in
+    let e : bigBytes width (v / 256) ++ (v % 256 ∷ []) ++ tail ≡ bigBytes width (v / 256) ++ v % 256 ∷ tail = append-snoc (bigBytes width (v / 256)) (v % 256) tail in
     let f : 0 + width ≡ length (bigBytes width (v / 256)) + 0 = omega arith in
-    let g : getD (bigBytes width (v / 256) ++ v % 256 ∷ behind) (0 + width) 0 ≡ v % 256 = ap (λ (j : ℕ). getD (bigBytes width (v / 256) ++ v % 256 ∷ behind) j 0) f ∙ getD-append-add (bigBytes width (v / 256)) (v % 256 ∷ behind) 0 0 in
-    rw (e, g, value-back width (v / 256) (omega arith) (v % 256 ∷ behind)) (omega arith)
+    let g : getD (bigBytes width (v / 256) ++ v % 256 ∷ tail) (0 + width) 0 ≡ v % 256 = ap (λ (j : ℕ). getD (bigBytes width (v / 256) ++ v % 256 ∷ tail) j 0) f ∙ getD-append-add (bigBytes width (v / 256)) (v % 256 ∷ tail) 0 0 in
+    rw (e, g, value-back width (v / 256) (omega arith) (v % 256 ∷ tail)) (omega arith)
 
--- a number read has the bytes that it was read from
+-- a value read has the bytes that it was read from
 pub bytes-back : (width : ℕ) (b : List ℕ) → Bytes b → (at : ℕ) → at + width ≤ length b → bigBytes width (be b at width) ≡ part b at width
 unfolding be bigBytes
 bytes-back zero b h at k = refl
@@ -107,3 +107,19 @@ put-filled xs ys at width v n h en ey =
     let l : length (part xs at n) ≡ width = ap (λ (k : ℕ). length (part xs at k)) e ∙ length-part xs at width h in
     let y : ys ≡ bigBytes width v = ey ∙ ap (λ (k : ℕ). bigBytes k v) l in
     lent xs ys at n (ap length y ∙ length-big width v ∙ sym e) ∙ ap (λ (b : List ℕ). put xs at b) y
+
+-- ---- an output, from a place on
+
+pub drop-put : (xs : List ℕ) (at : ℕ) (ys : List ℕ) → at ≤ length xs → drop at (put xs at ys) ≡ ys ++ drop (at + length ys) xs
+drop-put xs at ys h =
+    drop-at (take at xs) (ys ++ drop (length ys) (drop at xs)) at (length-take-le at xs h)
+    ∙ ap (λ (r : List ℕ). ys ++ r) (drop-drop (length ys) at xs)
+
+pub drop-big : (xs xs′ : List ℕ) (at width v next : ℕ) → at + width ≡ next → next ≤ length xs → xs′ ≡ put xs at (bigBytes width v)
+    → drop at xs′ ≡ bigBytes width v ++ drop next xs
+drop-big xs xs′ at width v next e h f =
+    let g : at + length (bigBytes width v) ≡ next = omega (arith, length-big width v) in
+    ap (drop at) f ∙ drop-put xs at (bigBytes width v) (omega arith) ∙ ap (λ (n : ℕ). bigBytes width v ++ drop n xs) g
+
+pub length-put-big : (xs xs′ : List ℕ) (at width v : ℕ) → at + width ≤ length xs → xs′ ≡ put xs at (bigBytes width v) → length xs′ ≡ length xs
+length-put-big xs xs′ at width v h f = ap length f ∙ length-put xs at (bigBytes width v) (omega (arith, length-big width v))

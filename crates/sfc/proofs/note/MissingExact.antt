@@ -27,7 +27,7 @@ before i j (k ∷ ks) h = go (isHeld k) (before i (suc j) ks (omega arith))
     go true f = f
     go false f = rw (ne-eqb i j (λ e. omega arith), f)
 
--- number d of them is listed exactly if it is there and does not say held
+-- the one at place d is listed exactly if it is there and does not say held
 listed : (j d : ℕ) (ks : List ℕ) → among (j + d) (unheldFrom j ks) ≡ (ltb d (length ks) && not (isHeld (getD ks d 0)))
 unfolding any unheldFrom
 listed j d [] = rw (le-ltb d 0 (omega arith)) refl

@@ -1,13 +1,13 @@
 -- The indices of marks that do not say held: how many there are, and a turn of the loops that judge, count and list them.
 -- Assumes nothing.
 use Prim.Native.Nat.{ℕ, zero, suc, _+_, _-_, _<_, _≤_}
-use mathlib.Core.Path.{_≡_, refl, sym, ap, ap₂, _∙_}
+use mathlib.Core.Path.{_≡_, refl, sym, ap, _∙_}
 use mathlib.Core.Bool.{Bool, true, false, cond}
 use mathlib.Core.List.{List, [], _∷_, _++_}
 use native.Mathlib.Omega.{arith}
 use borrow.Author.Tests.{eq-eqb, ne-eqb, le-leb, lt-leb, lt-ltb, le-ltb}
 use lib.ListN.{length, getD, set, take, drop, length-set}
-use lib.Seq.{length-take-le, drop-length, drop-set-lt, drop-cons, getD-set-same}
+use lib.Seq.{length-take-le, drop-length}
 use Rattle.little.specs.Parts.{put}
 use Rattle.little.proofs.PartLaws.{drop-down}
 use Rattle.little.proofs.ListLaws.{drop-set}
@@ -15,6 +15,7 @@ use Rattle.sfc.specs.session.Marks.{isHeld, heldCount}
 use Rattle.sfc.specs.session.Lent.{marksWrong}
 use Rattle.sfc.specs.answer.Numbers.{Answered}
 use Rattle.sfc.specs.note.Missing.{unheldFrom, missing, listMissing}
+use Rattle.sfc.specs.declared.format.header.Head.{Head}
 use Rattle.sfc.specs.declared.note.missing.Listed.{Listed}
 use Rattle.sfc.specs.declared.note.missing.Listed.the-variants.{Count, Refused}
 use Rattle.sfc.proofs.session.MarkLaws.{right-marks}
@@ -96,21 +97,21 @@ pub record Listing (marks : List ℕ) (count : ℕ) (out₀ out : List ℕ) (k i
   pub within : i ≤ length marks
   pub long : length out ≡ length out₀
   pub placed : k + length (unheldFrom i (drop i marks)) ≡ count
-  pub behind : drop k out ≡ unheldFrom i (drop i marks) ++ drop count out₀
+  pub after : drop k out ≡ unheldFrom i (drop i marks) ++ drop count out₀
 
 pub list-start : (marks : List ℕ) (count : ℕ) (out : List ℕ) → Listing marks count out out count (length marks)
 list-start marks count out = record {
   within = omega arith;
   long = refl;
   placed = rw unheld-none (omega arith);
-  behind = rw unheld-none refl;
+  after = rw unheld-none refl;
 }
 
 module _ (marks : List ℕ) (count : ℕ) (out₀ out : List ℕ) (k i : ℕ) (h : 0 < i) (l : Listing marks count out₀ out k i) where
   pub list-skip : getD marks (i - 1) 0 ≡ 1 → Listing marks count out₀ out k (i - 1)
   list-skip e =
       let u = unheld-same marks i h (l .within) e in
-      record { within = omega (arith, l .within); long = l .long; placed = rw u (l .placed); behind = rw u (l .behind) }
+      record { within = omega (arith, l .within); long = l .long; placed = rw u (l .placed); after = rw u (l .after) }
 
   module _ (e : getD marks (i - 1) 0 ≡ 1 → ⊥) (all : count ≡ length (unheldFrom 0 marks)) where
     -- there is room before those listed already
@@ -129,43 +130,43 @@ module _ (marks : List ℕ) (count : ℕ) (out₀ out : List ℕ) (k i : ℕ) (h
           within = omega (arith, l .within);
           long = length-set out (k - 1) (i - 1) ∙ l .long;
           placed = rw u (omega arith);
-          behind = drop-set out (k - 1) (i - 1) (omega arith) ∙ (rw (f, u) (ap (λ (r : List ℕ). (i - 1) ∷ r) (l .behind)));
+          after = drop-set out (k - 1) (i - 1) (omega arith) ∙ (rw (f, u) (ap (λ (r : List ℕ). (i - 1) ∷ r) (l .after)));
         }
 
 pub list-end : (marks : List ℕ) (count : ℕ) (out₀ out : List ℕ) (k i : ℕ) → i ≤ 0 → count ≡ length (unheldFrom 0 marks)
     → Listing marks count out₀ out k i → out ≡ put out₀ 0 (unheldFrom 0 marks)
 list-end marks count out₀ out k zero h all l =
     let z : k ≡ 0 = omega (arith, l .placed) in
-    (rw (z, all) at (l .behind))
+    (rw (z, all) at (l .after))
 list-end marks count out₀ out k (suc i) h all l = absurd (omega arith)
 
 -- ---- 71 and 52
 
--- a part of the data marks, behind a test that found nothing wrong
-pub among-right : (size n m s : ℕ) (marks : List ℕ) (wrong : Bool) (among : ℕ) → wrong ≡ marksWrong size n m s marks → wrong ≡ false
-    → among ≤ n → (among ≤ length marks) × (among ≤ 1024) × (length (take among marks) ≡ among)
-among-right size n m s marks wrong among e f h =
-    let r = right-marks size n m s marks (sym e ∙ f) in
+-- a part of the data marks, after a test that found nothing wrong
+pub among-right : (h : Head) (marks : List ℕ) (wrong : Bool) (among : ℕ) → wrong ≡ marksWrong (h .size) (h .n) (h .m) (h .s) marks → wrong ≡ false
+    → among ≤ h .n → (among ≤ length marks) × (among ≤ 1024) × (length (take among marks) ≡ among)
+among-right h marks wrong among e f l =
+    let r = right-marks (h .size) (h .n) (h .m) (h .s) marks (sym e ∙ f) in
     let i : among ≤ length marks = omega (arith, r .marks-long) in
     (i, omega (arith, r .shape .n-most), length-take-le among marks i)
 
-module _ (size n m s : ℕ) (marks out : List ℕ) where
-  pub list-wrong : marksWrong size n m s marks ≡ true
-      → _≡_ {A = Answered Listed} (record { answer = Refused Lent; output = out }) (listMissing size n m s marks out)
+module _ (h : Head) (marks out : List ℕ) where
+  pub list-wrong : marksWrong (h .size) (h .n) (h .m) (h .s) marks ≡ true
+      → _≡_ {A = Answered Listed} (record { answer = Refused Lent; output = out }) (listMissing h marks out)
   unfolding listMissing
   list-wrong e = rw e
 
-  module _ (e : marksWrong size n m s marks ≡ false) (among count : ℕ) (listed : missing n marks ≡ unheldFrom 0 (take among marks))
+  module _ (e : marksWrong (h .size) (h .n) (h .m) (h .s) marks ≡ false) (among count : ℕ) (listed : missing (h .n) marks ≡ unheldFrom 0 (take among marks))
       (counted : count ≡ length (unheldFrom 0 (take among marks))) where
     pub list-short : length out < count
-        → _≡_ {A = Answered Listed} (record { answer = Refused OutputShort; output = out }) (listMissing size n m s marks out)
+        → _≡_ {A = Answered Listed} (record { answer = Refused OutputShort; output = out }) (listMissing h marks out)
     unfolding listMissing
-    list-short h = rw (e, listed, ← counted, lt-ltb _ _ h)
+    list-short l = rw (e, listed, ← counted, lt-ltb _ _ l)
 
     pub list-good : (after : List ℕ) → count ≤ length out → after ≡ put out 0 (unheldFrom 0 (take among marks))
-        → _≡_ {A = Answered Listed} (record { answer = Count count; output = after }) (listMissing size n m s marks out)
+        → _≡_ {A = Answered Listed} (record { answer = Count count; output = after }) (listMissing h marks out)
     unfolding listMissing
-    list-good after h f = rw (e, listed, f, ← counted, le-ltb _ _ h)
+    list-good after l f = rw (e, listed, f, ← counted, le-ltb _ _ l)
 
 -- the count by subtraction
 pub unheld-left : (among : ℕ) (marks : List ℕ) (held : ℕ) → among ≤ length marks → held ≡ heldCount (take among marks)

@@ -1,4 +1,4 @@
--- NoteTheorems.note-read-back: the fields of a note's bytes, read one behind the other. Assumes nothing.
+-- NoteTheorems.note-read-back: the fields of a note's bytes, read one after the other. Assumes nothing.
 use Prim.Native.Nat.{ℕ, zero, suc, _+_, _*_, _≤_}
 use mathlib.Core.Path.{_≡_, refl, sym, ap, ap₂, _∙_}
 use mathlib.Core.Bool.{false}
@@ -8,8 +8,8 @@ use borrow.Author.Tests.{eq-eqb}
 use lib.ListN.{length, getD, take}
 use lib.Seq.{getD-append-add, drop-append-add, take-at}
 use Rattle.little.specs.Parts.{part, put}
-use Rattle.sfc.specs.note.Missing.{Range}
-use Rattle.sfc.specs.note.Note.{be, bigBytes, pairBytes, pairsBytes, noteOf, uuidIn, countIn, pairsFrom, rangesIn, malformed, bounds, readNote}
+use Rattle.sfc.specs.note.Ranges.{Range, bounds}
+use Rattle.sfc.specs.note.Note.{be, bigBytes, pairBytes, pairsBytes, noteOf, uuidIn, countIn, pairsFrom, rangesIn, malformed, readNote}
 use Rattle.sfc.specs.note.NoteTheorems.{Small, Sayable, taken}
 use Rattle.sfc.proofs.note.BigLaws.{be-skip, length-big, value-back}
 use Rattle.sfc.proofs.note.NoteLaws.{length-pair, length-note, read-good}

@@ -1,30 +1,30 @@
 -- NoteTheorems of specs/note/NoteTheorems.antt: the bytes that the reader takes are those of notes, and the writer's are among
 -- them. Assumes nothing.
-use Prim.Native.Nat.{ℕ, zero, suc, _+_, _*_, _^_, _≤_, _<_}
+use Prim.Native.Nat.{ℕ, zero, suc, _+_, _*_, _^_, _≤_}
 use mathlib.Core.Path.{_≡_, refl, sym, ap, ap₂, _∙_}
-use mathlib.Core.Bool.{Bool, true, false, cond, not, _||_}
-use mathlib.Core.Logic.{⊎-elim}
+use mathlib.Core.Bool.{true, false, not, _||_}
 use mathlib.Core.List.{List, [], _∷_, _++_, append-assoc}
 use native.Mathlib.Omega.{arith}
 use borrow.Author.Tests.{eqb-true, not-false}
 use lib.Dec.{eqb}
-use lib.ListN.{length, getD, take, drop, take-append-drop, drop-of-length-le}
-use lib.Seq.{drop-drop, drop-cons, length-take-le}
+use lib.ListN.{length, getD, drop, take-append-drop, drop-of-length-le}
+use lib.Seq.{drop-drop, drop-cons}
 use Rattle.little.specs.Parts.{part}
 use Rattle.little.specs.Fields.{Bytes}
-use Rattle.little.proofs.PartLaws.{below-or, length-part}
+use Rattle.little.proofs.PartLaws.{length-part}
 use Rattle.little.proofs.TestLaws.{or-false}
 use Rattle.little.proofs.FieldLaws.{bytes-part}
-use Rattle.sfc.specs.session.Marks.{isHeld, heldCount}
 use Rattle.sfc.specs.session.Lent.{marksWrong}
-use Rattle.sfc.specs.note.Missing.{Range, unheldFrom, missing, putBefore, ranges, apartFrom, maximal}
+use Rattle.sfc.specs.note.Missing.{missing}
+use Rattle.sfc.specs.note.Ranges.{Range, ranges, apartFrom, maximal}
 use Rattle.sfc.specs.note.Note.{be, bigBytes, pairsBytes, noteOf, uuidIn, countIn, pairsFrom, rangesIn, malformed}
 use Rattle.sfc.specs.note.NoteTheorems.{Small, Sayable, NoteTheorems}
-use Rattle.sfc.proofs.note.MissingLaws.{missing-none, missing-all}
+use Rattle.sfc.specs.declared.format.header.Head.{Head}
 use Rattle.sfc.proofs.session.MarkLaws.{right-marks}
 use Rattle.sfc.proofs.note.BigLaws.{be-bound, bytes-back}
 use Rattle.sfc.proofs.note.MissingExact.{missing-rises}
 use Rattle.sfc.proofs.note.RangesExact.{apart, ranges-exact}
+use Rattle.sfc.proofs.note.RangesFew.{Ends, missing-ends, ranges-few}
 use Rattle.sfc.proofs.note.NoteBack.{well-formed, note-read-back}
 use Rattle.sfc.proofs.note.NoteLaws.{length-pairsFrom}
 
@@ -101,60 +101,25 @@ sayable b y w =
 
 -- ---- what the writer says
 
--- each range of indices of so many marks ends among them, and ranges with a number between them are at most half as many
-abbrev Ends : ℕ → List Range → Type 0
-Ends top [] = Unit {0}
-Ends top (r ∷ rs) = (r .last < top) × Ends top rs
-
-put-ends : (top i : ℕ) (rs : List Range) → i < top → Ends top rs → Ends top (putBefore i rs)
-unfolding putBefore
-put-ends top i [] h e = (h, tt)
-put-ends top i (r ∷ rs) h e = go (eqb (suc i) (r .first))
-  where
-    go : (b : Bool) → Ends top (cond b (record { first = i; last = r .last } ∷ rs) (record { first = i; last = i } ∷ r ∷ rs))
-    go true = e
-    go false = (h, e)
-
-ends : (top j : ℕ) (ks : List ℕ) → j + length ks ≤ top → Ends top (ranges (unheldFrom j ks))
-unfolding unheldFrom ranges
-ends top j [] h = tt
-ends top j (k ∷ ks) h = go (isHeld k) (ends top (suc j) ks (omega arith))
-  where
-    go : (b : Bool) → Ends top (ranges (unheldFrom (suc j) ks)) → Ends top (ranges (cond b (unheldFrom (suc j) ks) (j ∷ unheldFrom (suc j) ks)))
-    go true e = e
-    go false e = put-ends top j (ranges (unheldFrom (suc j) ks)) (omega arith) e
-
 ends-small : (least top : ℕ) (rs : List Range) → top ≤ 2 ^ 32 → apartFrom least rs ≡ true → Ends top rs → Small rs
 ends-small least top [] h a e = tt
 ends-small least top (r ∷ rs) h a e =
     let p = apart least r rs a in
     (omega (arith, e .0, p .some), omega (arith, e .0), ends-small (r .last + 2) top rs h (p .rest) (e .1))
 
-half : (least top : ℕ) (rs : List Range) → least ≤ top + 1 → apartFrom least rs ≡ true → Ends top rs → 2 * length rs + least ≤ top + 1
-half least top [] h a e = omega arith
-half least top (r ∷ rs) h a e =
-    let p = apart least r rs a in
-    omega (arith, p .from, p .some, half (r .last + 2) top rs (omega (arith, e .0)) (p .rest) (e .1))
-
-missing-ends : (n : ℕ) (marks : List ℕ) → n ≤ length marks → Ends n (ranges (missing n marks))
-missing-ends n marks h =
-    ⊎-elim (λ (p : heldCount marks < n). rw (missing-all n marks p) (ends n 0 (take n marks) (omega (arith, length-take-le n marks h))))
-    (λ (p : n ≤ heldCount marks). rw (missing-none n marks p) (ends n 0 [] (omega arith)))
-    (below-or (heldCount marks) n)
-
-note-written : (uuid : List ℕ) (size n m s : ℕ) (marks : List ℕ) → length uuid ≡ 16 → Bytes uuid → marksWrong size n m s marks ≡ false
-    → Sayable uuid (ranges (missing n marks)) × (length (ranges (missing n marks)) ≤ 512)
-note-written uuid size n m s marks u y e =
-    let r = right-marks size n m s marks e in
+note-written : (h : Head) (marks : List ℕ) → length (h .uuid) ≡ 16 → Bytes (h .uuid) → marksWrong (h .size) (h .n) (h .m) (h .s) marks ≡ false
+    → Sayable (h .uuid) (ranges (missing (h .n) marks)) × (length (ranges (missing (h .n) marks)) ≤ 512)
+note-written h marks u y e =
+    let r = right-marks (h .size) (h .n) (h .m) (h .s) marks e in
     let f = r .shape .n-most in
-    let z = missing-ends n marks (omega (arith, r .marks-long)) in
-    let a = ranges-exact .rise (missing n marks) (missing-rises n marks) in
-    let k = half 0 n (ranges (missing n marks)) (omega arith) a z in (
+    let z = missing-ends (h .n) marks in
+    let a = ranges-exact .rise (missing (h .n) marks) (missing-rises (h .n) marks) in
+    let k = ranges-few .ranges-few (h .n) marks in (
       record {
         uuid-long = u;
         uuid-bytes = y;
         rise = a;
-        indices = ends-small 0 n (ranges (missing n marks)) (omega arith) a z;
+        indices = ends-small 0 (h .n) (ranges (missing (h .n) marks)) (omega arith) a z;
         few = omega arith;
       },
       omega arith,

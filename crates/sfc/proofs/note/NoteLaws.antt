@@ -9,63 +9,23 @@ use native.Mathlib.Omega.{arith}
 use borrow.Author.Tests.{lt-ltb, le-ltb, eqb-true, not-false}
 use lib.Dec.{eqb, leb}
 use lib.ListN.{length, getD, set, take, drop, length-append, length-set}
-use lib.Seq.{length-take-le, drop-at, drop-drop}
 use Rattle.little.specs.Parts.{part, put}
 use Rattle.little.proofs.PartLaws.{lent, length-part, length-put}
 use Rattle.little.proofs.TestLaws.{or-false}
 use Rattle.sfc.specs.session.Lent.{marksWrong}
 use Rattle.sfc.specs.answer.Numbers.{Answered}
-use Rattle.sfc.specs.note.Missing.{Range, unheldFrom, missing, ranges, apartFrom, maximal}
-use Rattle.sfc.specs.note.Note.{be, bigBytes, pairBytes, pairsBytes, noteOf, writeNote, indexPut, uuidIn, countIn, pairsFrom, rangesIn, malformed, bounds, refusedNote, readNote}
+use Rattle.sfc.specs.note.Missing.{unheldFrom, missing}
+use Rattle.sfc.specs.note.Ranges.{Range, ranges, apartFrom, maximal, bounds}
+use Rattle.sfc.specs.note.Note.{be, bigBytes, pairBytes, pairsBytes, noteOf, writeNote, uuidIn, countIn, pairsFrom, rangesIn, malformed, refusedNote, readNote}
+use Rattle.sfc.specs.declared.format.header.Head.{Head}
 use Rattle.sfc.specs.declared.answer.reason.Reason.the-variants.{Note, Lent, OutputShort}
 use Rattle.sfc.specs.declared.answer.reason.Checked.the-variants.{Good}
 use Rattle.sfc.specs.declared.note.resend.NoteRead.{NoteRead}
 use Rattle.sfc.specs.declared.answer.written.Written.{Written}
 use Rattle.sfc.specs.declared.answer.written.Written.the-variants.{Bytes, Refused as Unwritten}
 use Rattle.little.proofs.ListLaws.{copied, drop-set}
-use Rattle.sfc.proofs.note.BigLaws.{length-big}
-
--- ---- an output, from a place on
-
-drop-put : (xs : List ℕ) (at : ℕ) (ys : List ℕ) → at ≤ length xs → drop at (put xs at ys) ≡ ys ++ drop (at + length ys) xs
-drop-put xs at ys h =
-    drop-at (take at xs) (ys ++ drop (length ys) (drop at xs)) at (length-take-le at xs h)
-    ∙ ap (λ (r : List ℕ). ys ++ r) (drop-drop (length ys) at xs)
-
-drop-big : (xs xs′ : List ℕ) (at width v next : ℕ) → at + width ≡ next → next ≤ length xs → xs′ ≡ put xs at (bigBytes width v)
-    → drop at xs′ ≡ bigBytes width v ++ drop next xs
-drop-big xs xs′ at width v next e h f =
-    let g : at + length (bigBytes width v) ≡ next = omega (arith, length-big width v) in
-    ap (drop at) f ∙ drop-put xs at (bigBytes width v) (omega arith) ∙ ap (λ (n : ℕ). bigBytes width v ++ drop n xs) g
-
-length-put-big : (xs xs′ : List ℕ) (at width v : ℕ) → at + width ≤ length xs → xs′ ≡ put xs at (bigBytes width v) → length xs′ ≡ length xs
-length-put-big xs xs′ at width v h f = ap length f ∙ length-put xs at (bigBytes width v) (omega (arith, length-big width v))
-
--- ---- an index before a pair
-
-abbrev IndexPut : List ℕ → List ℕ → ℕ → ℕ → ℕ → Bool → Type 0
-IndexPut out after k r i joined =
-    (joined ≡ true → r ≡ k) × (joined ≡ false → r + 1 ≡ k) × (drop (23 + 8 * r) after ≡ indexPut joined i (drop (23 + 8 * k) out))
-
-pub index-joined : (out after : List ℕ) (k i : ℕ) (joined : Bool) → joined ≡ true → 27 + 8 * k ≤ length out
-    → after ≡ put out (23 + 8 * k) (bigBytes 4 i) → IndexPut out after k k i joined
-unfolding indexPut
-index-joined out after k i joined j h e = (
-  λ _. refl,
-  λ f. absurd (let z : _≡_ {A = ℕ} 0 1 = cc in omega arith),
-  rw j (drop-big out after (23 + 8 * k) 4 i (23 + 8 * k + 4) refl (omega arith) e ∙ ap (λ (r : List ℕ). bigBytes 4 i ++ r) (sym (drop-drop 4 (23 + 8 * k) out))),
-)
-
-pub index-own : (out between after : List ℕ) (k r i : ℕ) (joined : Bool) → joined ≡ false → r + 1 ≡ k → 23 + 8 * k ≤ length out
-    → between ≡ put out (27 + 8 * r) (bigBytes 4 i) → after ≡ put between (23 + 8 * r) (bigBytes 4 i) → IndexPut out after k r i joined
-unfolding indexPut
-index-own out between after k r i joined j f h eb ea =
-    let l = length-put-big out between (27 + 8 * r) 4 i (omega arith) eb in (
-      λ g. absurd (let z : _≡_ {A = ℕ} 0 1 = cc in omega arith),
-      λ _. f,
-      rw j (drop-big between after (23 + 8 * r) 4 i (27 + 8 * r) (omega arith) (omega arith) ea
-          ∙ ap (λ (x : List ℕ). bigBytes 4 i ++ x) (drop-big out between (27 + 8 * r) 4 i (23 + 8 * k) (omega arith) h eb)),
-    )
+use Rattle.sfc.proofs.note.BigLaws.{length-big, drop-put, drop-big, length-put-big}
+use Rattle.sfc.proofs.note.PairLaws.{bounds-long}
 
 -- ---- the start of a note
 
@@ -123,35 +83,35 @@ length-note uuid rs u =
 
 -- ---- the answers of the writer
 
-module _ (uuid : List ℕ) (size n m s : ℕ) (marks out : List ℕ) where
-  pub write-wrong : marksWrong size n m s marks ≡ true
-      → _≡_ {A = Answered Written} (record { answer = Unwritten Lent; output = out }) (writeNote uuid size n m s marks out)
+module _ (h : Head) (marks out : List ℕ) where
+  pub write-wrong : marksWrong (h .size) (h .n) (h .m) (h .s) marks ≡ true
+      → _≡_ {A = Answered Written} (record { answer = Unwritten Lent; output = out }) (writeNote h marks out)
   unfolding writeNote
   write-wrong e = rw e
 
-  module _ (u : length uuid ≡ 16) (e : marksWrong size n m s marks ≡ false) (among count : ℕ)
-      (listed : missing n marks ≡ unheldFrom 0 (take among marks)) (counted : count ≡ length (ranges (unheldFrom 0 (take among marks)))) where
-    long : length (noteOf uuid (ranges (unheldFrom 0 (take among marks)))) ≡ 23 + 8 * count
-    long = length-note uuid (ranges (unheldFrom 0 (take among marks))) u ∙ ap (λ (k : ℕ). 23 + 8 * k) (sym counted)
+  module _ (u : length (h .uuid) ≡ 16) (e : marksWrong (h .size) (h .n) (h .m) (h .s) marks ≡ false) (among count : ℕ)
+      (listed : missing (h .n) marks ≡ unheldFrom 0 (take among marks)) (counted : count ≡ length (ranges (unheldFrom 0 (take among marks)))) where
+    long : length (noteOf (h .uuid) (ranges (unheldFrom 0 (take among marks)))) ≡ 23 + 8 * count
+    long = length-note (h .uuid) (ranges (unheldFrom 0 (take among marks))) u ∙ ap (λ (k : ℕ). 23 + 8 * k) (sym counted)
 
     pub write-short : length out < 23 + 8 * count
-        → _≡_ {A = Answered Written} (record { answer = Unwritten OutputShort; output = out }) (writeNote uuid size n m s marks out)
+        → _≡_ {A = Answered Written} (record { answer = Unwritten OutputShort; output = out }) (writeNote h marks out)
     unfolding writeNote
-    write-short h = rw (e, listed, long, lt-ltb _ _ h)
+    write-short l = rw (e, listed, long, lt-ltb _ _ l)
 
     written : (between after : List ℕ)
         → drop 23 between ≡ pairsBytes (ranges (unheldFrom 0 (take among marks))) ++ drop (23 + 8 * count) out
-        → after ≡ bigBytes 4 (19 + 8 * count) ++ (1 ∷ (uuid ++ (bigBytes 2 count ++ drop 23 between)))
-        → after ≡ put out 0 (noteOf uuid (ranges (unheldFrom 0 (take among marks))))
+        → after ≡ bigBytes 4 (19 + 8 * count) ++ (1 ∷ (h .uuid ++ (bigBytes 2 count ++ drop 23 between)))
+        → after ≡ put out 0 (noteOf (h .uuid) (ranges (unheldFrom 0 (take among marks))))
     unfolding noteOf
     written between after eb ea = rw (ea, eb, long, counted) (simp append-assoc)
 
     pub write-good : (between after : List ℕ) → 23 + 8 * count ≤ length out
         → drop 23 between ≡ pairsBytes (ranges (unheldFrom 0 (take among marks))) ++ drop (23 + 8 * count) out
-        → after ≡ bigBytes 4 (19 + 8 * count) ++ (1 ∷ (uuid ++ (bigBytes 2 count ++ drop 23 between)))
-        → _≡_ {A = Answered Written} (record { answer = Bytes (23 + 8 * count); output = after }) (writeNote uuid size n m s marks out)
+        → after ≡ bigBytes 4 (19 + 8 * count) ++ (1 ∷ (h .uuid ++ (bigBytes 2 count ++ drop 23 between)))
+        → _≡_ {A = Answered Written} (record { answer = Bytes (23 + 8 * count); output = after }) (writeNote h marks out)
     unfolding writeNote
-    write-good between after h eb ea = rw (e, listed, written between after eb ea, long, le-ltb _ _ h)
+    write-good between after l eb ea = rw (e, listed, written between after eb ea, long, le-ltb _ _ l)
 
 -- ---- judging pairs
 
@@ -198,13 +158,13 @@ note-long b e =
 pub record Copying (b : List ℕ) (count : ℕ) (out₀ out : List ℕ) (k : ℕ) : Type 0 where
   pub within : k ≤ count
   pub long : length out ≡ length out₀
-  pub behind : drop (2 * k) out ≡ bounds (pairsFrom b (23 + 8 * k) (count - k)) ++ drop (2 * count) out₀
+  pub after : drop (2 * k) out ≡ bounds (pairsFrom b (23 + 8 * k) (count - k)) ++ drop (2 * count) out₀
 
 pub copy-start : (b : List ℕ) (count : ℕ) (out : List ℕ) → Copying b count out out count
 unfolding bounds pairsFrom
 copy-start b count out =
     let n : count - count ≡ 0 = omega arith in
-    record { within = omega arith; long = refl; behind = rw n }
+    record { within = omega arith; long = refl; after = rw n }
 
 pub copy-turn : (b : List ℕ) (count : ℕ) (out₀ out : List ℕ) (k first last : ℕ) → 0 < k → 2 * count ≤ length out₀ → Copying b count out₀ out k
     → first ≡ be b (23 + 8 * (k - 1)) 4 → last ≡ be b (27 + 8 * (k - 1)) 4
@@ -220,17 +180,12 @@ copy-turn b count out₀ out k first last h room l ef el =
     let ls : length (set out (2 * (k - 1) + 1) last) ≡ length out = length-set out (2 * (k - 1) + 1) last in
     let x = drop-set (set out (2 * (k - 1) + 1) last) (2 * (k - 1)) first (omega arith) in
     let y = drop-set out (2 * (k - 1) + 1) last (omega arith) in
-    let z : drop (2 * (k - 1) + 1 + 1) out ≡ bounds (pairsFrom b (23 + 8 * k) (count - k)) ++ drop (2 * count) out₀ = rw r (l .behind) in
+    let z : drop (2 * (k - 1) + 1 + 1) out ≡ bounds (pairsFrom b (23 + 8 * k) (count - k)) ++ drop (2 * count) out₀ = rw r (l .after) in
     record {
       within = omega arith;
       long = length-set (set out (2 * (k - 1) + 1) last) (2 * (k - 1)) first ∙ ls ∙ lo;
-      behind = x ∙ ap (λ (t : List ℕ). first ∷ t) (y ∙ ap (λ (t : List ℕ). last ∷ t) z) ∙ (rw (n, p, q, ef, el) refl);
+      after = x ∙ ap (λ (t : List ℕ). first ∷ t) (y ∙ ap (λ (t : List ℕ). last ∷ t) z) ∙ (rw (n, p, q, ef, el) refl);
     }
-
-pub bounds-long : (rs : List Range) → length (bounds rs) ≡ 2 * length rs
-unfolding bounds
-bounds-long [] = refl
-bounds-long (r ∷ rs) = omega (arith, bounds-long rs)
 
 pub length-pairsFrom : (b : List ℕ) (at k : ℕ) → length (pairsFrom b at k) ≡ k
 unfolding pairsFrom
@@ -245,7 +200,7 @@ pub copy-end : (b : List ℕ) (count : ℕ) (out₀ out : List ℕ) (k : ℕ) �
 copy-end b count out₀ out zero h l =
     let n : count - 0 ≡ count = omega arith in
     let d = length-bounds b 23 count in
-    (rw n at (l .behind)) ∙ ap (λ (j : ℕ). bounds (pairsFrom b 23 count) ++ drop j out₀) (sym d)
+    (rw n at (l .after)) ∙ ap (λ (j : ℕ). bounds (pairsFrom b 23 count) ++ drop j out₀) (sym d)
 copy-end b count out₀ out (suc k) h l = absurd (omega arith)
 
 -- ---- the answers of the reader

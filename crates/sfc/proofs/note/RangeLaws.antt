@@ -1,22 +1,20 @@
--- Ranges of the marks that do not say held: a turn of the loops that count them and write them, from the last to the first.
--- Assumes nothing.
-use Prim.Native.Nat.{ℕ, zero, suc, _+_, _-_, _*_, _<_, _≤_}
+-- Ranges of the marks that do not say held: one mark more at the front, and a turn of the loop that counts them. Assumes
+-- nothing.
+use Prim.Native.Nat.{ℕ, zero, suc, _+_, _-_, _<_, _≤_}
 use mathlib.Core.Path.{_≡_, refl, sym, ap, _∙_}
 use mathlib.Core.Bool.{Bool, true, false, cond, not, _&&_, false≢true}
-use mathlib.Core.List.{List, [], _∷_, _++_, append-assoc}
+use mathlib.Core.List.{List, [], _∷_}
 use mathlib.Core.Logic.{_⊎_, inl, inr, ⊎-elim}
 use native.Mathlib.Omega.{arith}
 use borrow.Author.Tests.{eq-eqb, ne-eqb, eqb-true, eqb-false}
 use lib.Dec.{eqb}
 use lib.ListN.{length, getD, drop}
-use lib.Seq.{drop-at}
 use Rattle.sfc.specs.session.Marks.{isHeld}
-use Rattle.sfc.specs.note.Missing.{unheldFrom, Range, putBefore, ranges}
-use Rattle.sfc.specs.note.Note.{bigBytes, pairBytes, pairsBytes, indexPut}
+use Rattle.sfc.specs.note.Missing.{unheldFrom}
+use Rattle.sfc.specs.note.Ranges.{Range, putBefore, ranges}
 use Rattle.sfc.proofs.note.MissingLaws.{unheld-same, unheld-more, unheld-none}
-use Rattle.sfc.proofs.note.BigLaws.{length-big}
 
-either : (b : Bool) → (b ≡ true) ⊎ (b ≡ false)
+pub either : (b : Bool) → (b ≡ true) ⊎ (b ≡ false)
 either true = inl refl
 either false = inr refl
 
@@ -29,7 +27,7 @@ unfoldable pub beginsAt : ℕ → List Range → Bool
 beginsAt i [] = false
 beginsAt i (r ∷ rs) = eqb i (r .first)
 
--- ---- a number put before ranges
+-- ---- an index put before ranges
 
 begins-put : (i : ℕ) (rs : List Range) → beginsAt i (putBefore i rs) ≡ true
 unfolding beginsAt putBefore
@@ -60,7 +58,7 @@ begins-later i j (k ∷ ks) h = go (isHeld k) (begins-later i (suc j) ks (omega 
     go true f = f
     go false f = begins-other i j (ranges (unheldFrom (suc j) ks)) (λ e. omega arith)
 
-begins-some : (i : ℕ) (rs : List Range) → beginsAt i rs ≡ true → 0 < length rs
+pub begins-some : (i : ℕ) (rs : List Range) → beginsAt i rs ≡ true → 0 < length rs
 unfolding beginsAt
 begins-some i [] e = absurd (false≢true e)
 begins-some i (r ∷ rs) e = omega arith
@@ -117,36 +115,36 @@ ranges-few i (k ∷ ks) = go (isHeld k) (ranges-few (suc i) ks)
 -- ---- one mark more at the front
 
 module _ (marks : List ℕ) (i : ℕ) (h : 0 < i) (k : i ≤ length marks) where
-  same-ranges : getD marks (i - 1) 0 ≡ 1 → rangesAt marks (i - 1) ≡ rangesAt marks i
+  pub same-ranges : getD marks (i - 1) 0 ≡ 1 → rangesAt marks (i - 1) ≡ rangesAt marks i
   same-ranges e = ap ranges (unheld-same marks i h k e)
 
-  more-ranges : (getD marks (i - 1) 0 ≡ 1 → ⊥) → rangesAt marks (i - 1) ≡ putBefore (i - 1) (rangesAt marks i)
+  pub more-ranges : (getD marks (i - 1) 0 ≡ 1 → ⊥) → rangesAt marks (i - 1) ≡ putBefore (i - 1) (rangesAt marks i)
   unfolding ranges
   more-ranges e = ap ranges (unheld-more marks i h k e)
 
   -- none begins at a held index; one does at another
-  begins-same : getD marks (i - 1) 0 ≡ 1 → false ≡ beginsAt (i - 1) (rangesAt marks (i - 1))
+  pub begins-same : getD marks (i - 1) 0 ≡ 1 → false ≡ beginsAt (i - 1) (rangesAt marks (i - 1))
   begins-same e = sym (ap (beginsAt (i - 1)) (same-ranges e) ∙ begins-later (i - 1) i (drop i marks) (omega arith))
 
-  begins-more : (getD marks (i - 1) 0 ≡ 1 → ⊥) → true ≡ beginsAt (i - 1) (rangesAt marks (i - 1))
+  pub begins-more : (getD marks (i - 1) 0 ≡ 1 → ⊥) → true ≡ beginsAt (i - 1) (rangesAt marks (i - 1))
   begins-more e = sym (ap (beginsAt (i - 1)) (more-ranges e) ∙ begins-put (i - 1) (rangesAt marks i))
 
   module _ (e : getD marks (i - 1) 0 ≡ 1 → ⊥) where
-    joined-more : beginsAt i (rangesAt marks i) ≡ true → length (rangesAt marks (i - 1)) ≡ length (rangesAt marks i)
+    pub joined-more : beginsAt i (rangesAt marks i) ≡ true → length (rangesAt marks (i - 1)) ≡ length (rangesAt marks i)
     joined-more b =
         let f : i ≡ suc (i - 1) = omega arith in
         ap length (more-ranges e) ∙ joined-length (i - 1) (rangesAt marks i) (sym (ap (λ (j : ℕ). beginsAt j (rangesAt marks i)) f) ∙ b)
 
-    own-more : beginsAt i (rangesAt marks i) ≡ false → length (rangesAt marks (i - 1)) ≡ suc (length (rangesAt marks i))
+    pub own-more : beginsAt i (rangesAt marks i) ≡ false → length (rangesAt marks (i - 1)) ≡ suc (length (rangesAt marks i))
     own-more b =
         let f : i ≡ suc (i - 1) = omega arith in
         ap length (more-ranges e) ∙ own-length (i - 1) (rangesAt marks i) (sym (ap (λ (j : ℕ). beginsAt j (rangesAt marks i)) f) ∙ b)
 
-none-at-end : (marks : List ℕ) → rangesAt marks (length marks) ≡ []
+pub none-at-end : (marks : List ℕ) → rangesAt marks (length marks) ≡ []
 unfolding ranges
 none-at-end marks = ap ranges (unheld-none (length marks) marks)
 
-begins-end : (marks : List ℕ) → false ≡ beginsAt (length marks) (rangesAt marks (length marks))
+pub begins-end : (marks : List ℕ) → false ≡ beginsAt (length marks) (rangesAt marks (length marks))
 unfolding beginsAt
 begins-end marks = rw (none-at-end marks)
 
@@ -193,79 +191,3 @@ module _ (marks : List ℕ) (count : ℕ) (joined : Bool) (i : ℕ) (h : 0 < i) 
 
   pub count-same : (not (eqb (getD marks (i - 1) 0) 1) && not joined) ≡ false → Counting marks count (not (eqb (getD marks (i - 1) 0) 1)) (i - 1)
   count-same e = turn (eqb (getD marks (i - 1) 0) 1) joined refl refl count (rw e)
-
--- ---- writing the pairs
-
--- an index put before pairs is the bytes of the ranges with it put before them
-index-bytes : (joined : Bool) (i : ℕ) (rs : List Range) (tail : List ℕ) → joined ≡ beginsAt (suc i) rs
-    → indexPut joined i (pairsBytes rs ++ tail) ≡ pairsBytes (putBefore i rs) ++ tail
-unfolding indexPut beginsAt putBefore pairsBytes
-index-bytes joined i [] tail e = rw e (sym (append-assoc (bigBytes 4 i ++ bigBytes 4 i) [] tail ∙ append-assoc (bigBytes 4 i) (bigBytes 4 i) tail))
-index-bytes joined i (r ∷ rs) tail e = rw e (go (eqb (suc i) (r .first)))
-  where
-    go : (b : Bool) → cond b (bigBytes 4 i ++ drop 4 (pairBytes r ++ pairsBytes rs ++ tail)) (bigBytes 4 i ++ (bigBytes 4 i ++ (pairBytes r ++ pairsBytes rs ++ tail)))
-        ≡ pairsBytes (cond b (record { first = i; last = r .last } ∷ rs) (record { first = i; last = i } ∷ r ∷ rs)) ++ tail
-    go true =
-        let f : pairBytes r ++ pairsBytes rs ++ tail ≡ bigBytes 4 (r .first) ++ (bigBytes 4 (r .last) ++ (pairsBytes rs ++ tail)) = simp append-assoc in
-        rw (f, drop-at (bigBytes 4 (r .first)) (bigBytes 4 (r .last) ++ (pairsBytes rs ++ tail)) 4 (length-big 4 (r .first))) (simp append-assoc)
-    go false = simp append-assoc
-
-pub record Placing (marks : List ℕ) (count : ℕ) (out₀ out : List ℕ) (k : ℕ) (joined : Bool) (i : ℕ) : Type 0 where
-  pub within : i ≤ length marks
-  pub long : length out ≡ length out₀
-  pub begins : joined ≡ beginsAt i (rangesAt marks i)
-  pub placed : k + length (rangesAt marks i) ≡ count
-  pub behind : drop (23 + 8 * k) out ≡ pairsBytes (rangesAt marks i) ++ drop (23 + 8 * count) out₀
-
-pub place-start : (marks : List ℕ) (count : ℕ) (out : List ℕ) → Placing marks count out out count false (length marks)
-unfolding pairsBytes
-place-start marks count out = record {
-  within = omega arith;
-  long = refl;
-  begins = begins-end marks;
-  placed = rw (none-at-end marks) (omega arith);
-  behind = rw (none-at-end marks) refl;
-}
-
-module _ (marks : List ℕ) (count : ℕ) (out₀ out : List ℕ) (k : ℕ) (joined : Bool) (i : ℕ) (h : 0 < i) (l : Placing marks count out₀ out k joined i) where
-  pub place-skip : getD marks (i - 1) 0 ≡ 1 → Placing marks count out₀ out k false (i - 1)
-  place-skip e =
-      let s = same-ranges marks i h (l .within) e in
-      record {
-        within = omega (arith, l .within);
-        long = l .long;
-        begins = begins-same marks i h (l .within) e;
-        placed = rw s (l .placed);
-        behind = rw s (l .behind);
-      }
-
-  module _ (e : getD marks (i - 1) 0 ≡ 1 → ⊥) (all : count ≡ length (ranges (unheldFrom 0 marks))) (room : 23 + 8 * count ≤ length out₀) where
-    pub place-room : (23 + 8 * k ≤ length out) × (joined ≡ true → 27 + 8 * k ≤ length out) × (joined ≡ false → 0 < k)
-    place-room = (
-      omega (arith, l .placed, l .long),
-      λ j. omega (arith, l .placed, l .long, begins-some i (rangesAt marks i) (sym (l .begins) ∙ j)),
-      λ j. omega (arith, l .placed, own-more marks i h (l .within) e (sym (l .begins) ∙ j), ranges-part (i - 1) marks),
-    )
-
-    pub place-turn : (out′ : List ℕ) (k′ : ℕ) → length out′ ≡ length out → (joined ≡ true → k′ ≡ k) → (joined ≡ false → k′ + 1 ≡ k)
-        → drop (23 + 8 * k′) out′ ≡ indexPut joined (i - 1) (drop (23 + 8 * k) out) → Placing marks count out₀ out′ k′ true (i - 1)
-    place-turn out′ k′ lo kt kf d =
-        let f : i ≡ suc (i - 1) = omega arith in
-        let g = more-ranges marks i h (l .within) e in
-        record {
-          within = omega (arith, l .within);
-          long = lo ∙ l .long;
-          begins = begins-more marks i h (l .within) e;
-          placed = ⊎-elim (λ (j : joined ≡ true). omega (arith, kt j, l .placed, joined-more marks i h (l .within) e (sym (l .begins) ∙ j)))
-              (λ (j : joined ≡ false). omega (arith, kf j, l .placed, own-more marks i h (l .within) e (sym (l .begins) ∙ j))) (either joined);
-          behind = d ∙ ap (indexPut joined (i - 1)) (l .behind)
-              ∙ index-bytes joined (i - 1) (rangesAt marks i) (drop (23 + 8 * count) out₀) (l .begins ∙ ap (λ (j : ℕ). beginsAt j (rangesAt marks i)) f)
-              ∙ ap (λ (rs : List Range). pairsBytes rs ++ drop (23 + 8 * count) out₀) (sym g);
-        }
-
-pub place-end : (marks : List ℕ) (count : ℕ) (out₀ out : List ℕ) (k : ℕ) (joined : Bool) (i : ℕ) → i ≤ 0 → count ≡ length (ranges (unheldFrom 0 marks))
-    → Placing marks count out₀ out k joined i → drop 23 out ≡ pairsBytes (ranges (unheldFrom 0 marks)) ++ drop (23 + 8 * count) out₀
-place-end marks count out₀ out k joined zero h all l =
-    let z : 23 + 8 * k ≡ 23 = omega (arith, l .placed) in
-    rw z at (l .behind)
-place-end marks count out₀ out k joined (suc i) h all l = absurd (omega arith)

@@ -1,4 +1,4 @@
--- RangesExact of specs/note/NoteTheorems.antt: the ranges of a rising list are maximal, have its numbers, and are the only ones.
+-- RangesExact of specs/note/NoteTheorems.antt: the ranges of a rising list are maximal, have its indices, and are the only ones.
 -- Assumes nothing.
 use Prim.Native.Nat.{ℕ, suc, _+_, _<_, _≤_}
 use mathlib.Core.Path.{_≡_, refl, sym, ap, ap₂, _∙_}
@@ -11,7 +11,7 @@ use lib.Dec.{eqb, leb}
 use Rattle.little.proofs.PartLaws.{below-or}
 use Rattle.little.proofs.TestLaws.{and-both}
 use Rattle.little.specs.Runs.{any, among, risingFrom}
-use Rattle.sfc.specs.note.Missing.{Range, putBefore, ranges, apartFrom}
+use Rattle.sfc.specs.note.Ranges.{Range, putBefore, ranges, apartFrom}
 use Rattle.sfc.specs.note.NoteTheorems.{covered, RangesExact}
 
 -- what the test of ranges says of the first of them, and of the rest
@@ -57,9 +57,9 @@ rise-from least (i ∷ is) e =
     let x = and-both (leb least i) (risingFrom (suc i) is) e in
     put-apart least i (ranges is) (leb-true _ _ (x .0)) (rise-from (suc i) is (x .1))
 
--- ---- they have the numbers of the list
+-- ---- they have the indices of the list
 
--- a range from j to l is j and the range behind it
+-- a range from j to l is j and the range after it
 one-more : (i j f l : ℕ) → f ≡ suc j → j ≤ l → (leb j i && leb i l) ≡ (eqb i j || (leb f i && leb i l))
 one-more i j f l e h =
     ⊎-elim (λ (p : i < j). rw (lt-leb j i p, lt-leb f i (omega arith), ne-eqb i j (λ s. omega arith)))
@@ -69,7 +69,7 @@ one-more i j f l e h =
     (below-or j i))
     (below-or i j)
 
--- a range of one number is that number
+-- a range of one index is that index
 only : (i j : ℕ) → (leb j i && leb i j) ≡ eqb i j
 only i j =
     ⊎-elim (λ (p : i < j). rw (lt-leb j i p, ne-eqb i j (λ s. omega arith)))
@@ -118,9 +118,9 @@ before-first : (i : ℕ) (r : Range) (rs : List Range) → i < r .first → cove
 unfolding any
 before-first i r rs h = rw (lt-leb _ _ h)
 
-behind-last : (i : ℕ) (r : Range) (rs : List Range) → r .last < i → covered i (r ∷ rs) ≡ covered i rs
+after-last : (i : ℕ) (r : Range) (rs : List Range) → r .last < i → covered i (r ∷ rs) ≡ covered i rs
 unfolding any
-behind-last i r rs h = go (leb (r .first) i)
+after-last i r rs h = go (leb (r .first) i)
   where
     go : (b : Bool) → ((b && leb i (r .last)) || covered i rs) ≡ covered i rs
     go true = rw (lt-leb _ _ h)
@@ -146,7 +146,7 @@ not-sooner : (l m : ℕ) (r q : Range) (rs qs : List Range) → Apart l r rs →
     → ((i : ℕ) → covered i (r ∷ rs) ≡ covered i (q ∷ qs)) → q .last ≤ r .last
 not-sooner l m r q rs qs a b e h =
     ⊎-elim (λ (p : r .last < q .last).
-    absurd (false≢true (sym (behind-last (suc (r .last)) r rs (omega arith) ∙ before-all (r .last + 2) (suc (r .last)) rs (a .rest) (omega arith))
+    absurd (false≢true (sym (after-last (suc (r .last)) r rs (omega arith) ∙ before-all (r .last + 2) (suc (r .last)) rs (a .rest) (omega arith))
     ∙ h (suc (r .last)) ∙ inside (suc (r .last)) q qs (omega (arith, a .some)) (omega arith))))
     (λ (p : q .last ≤ r .last). p)
     (below-or (r .last) (q .last))
@@ -173,7 +173,7 @@ same l m (r ∷ rs) (q ∷ qs) e f h =
     (same (r .last + 2) (q .last + 2) rs qs (a .rest) (b .rest)
     (λ i. ⊎-elim
     (λ (p : i < r .last + 2). before-all (r .last + 2) i rs (a .rest) p ∙ sym (before-all (q .last + 2) i qs (b .rest) (omega arith)))
-    (λ (p : r .last + 2 ≤ i). sym (behind-last i r rs (omega arith)) ∙ h i ∙ behind-last i q qs (omega arith))
+    (λ (p : r .last + 2 ≤ i). sym (after-last i r rs (omega arith)) ∙ h i ∙ after-last i q qs (omega arith))
     (below-or i (r .last + 2))))
 
 pub ranges-exact : RangesExact

@@ -9,7 +9,7 @@ use mathlib.Core.List.{List, [], _∷_}
 use lib.ListN.{length, drop}
 use Rattle.little.specs.Runs.{zeros, among}
 use Rattle.sfc.specs.answer.Numbers.{numberOf}
-use Rattle.sfc.specs.format.Header.{readHeader, refusedHeader}
+use Rattle.sfc.specs.format.Header.{lengthField, readHeader, refusedHeader}
 use Rattle.sfc.specs.format.Chunk.{checkChunk}
 use Rattle.sfc.specs.answer.Places.{place}
 use Rattle.sfc.specs.format.Lookup.{findField}
@@ -21,6 +21,7 @@ use Rattle.sfc.specs.session.Lent.{Lent, rebuildWrong}
 use Rattle.sfc.specs.give.Block.{blockRequest}
 use Rattle.sfc.specs.give.Prefix.{prefixGiven}
 use Rattle.sfc.specs.note.Missing.{listMissing}
+use Rattle.sfc.specs.note.Ranges.{listRanges}
 use Rattle.sfc.specs.note.Note.{writeNote, refusedNote, readNote}
 use Rattle.sfc.specs.writing.Writer.{Input, writeFile}
 use Rattle.sfc.specs.declared.format.header.Head.{Head}
@@ -29,7 +30,7 @@ use Rattle.sfc.specs.declared.answer.places.BytePlace.{BytePlace}
 use Rattle.sfc.specs.declared.answer.reason.Reason.{Reason}
 use Rattle.sfc.specs.declared.answer.reason.Checked.the-variants.{Good, Refused}
 use Rattle.sfc.specs.declared.format.chunk.ChunkChecked.the-variants.{Refused as NoChunk}
-use Rattle.sfc.specs.declared.format.lookup.FieldFound.the-variants.{At}
+use Rattle.sfc.specs.declared.format.lookup.FieldFound.the-variants.{At, Refused as NotShown}
 use Rattle.sfc.specs.declared.session.offer.Verdict.the-variants.{Refused as NotTaken}
 use Rattle.sfc.specs.declared.give.hand_out.HandedOut.the-variants.{Complete, Refused as NotHandedOut}
 use Rattle.sfc.specs.declared.give.prefix.PrefixGiven.the-variants.{Unverified as PrefixUnverified, Refused as NoPrefix}
@@ -66,8 +67,12 @@ pub record Demand1 : Type 0 where
   -- A chunk by itself: 71 or 30 to 40.
   pub chunk-refused : (h : Head) (c : List ℕ) (r : Reason) → checkChunk h c ≡ NoChunk r
       → OneOf r (71 ∷ 30 ∷ 31 ∷ 32 ∷ 33 ∷ 34 ∷ 35 ∷ 36 ∷ 37 ∷ 38 ∷ 39 ∷ 40 ∷ [])
-  -- The place of a field: there is no refusal, and what is found lies in the input.
-  pub field-inside : (b : List ℕ) (tag p long : ℕ) → findField b tag ≡ At (place p) long → p + long ≤ length b
+  -- The place of a field: the header's number, 10 to 23, and nothing else; what is found lies in the region of an accepted header,
+  -- and the region, with a trailer after it, in the input.
+  pub field-refused : (b : List ℕ) (tag : ℕ) (r : Reason) → findField b tag ≡ NotShown r
+      → OneOf r (10 ∷ 11 ∷ 12 ∷ 13 ∷ 14 ∷ 15 ∷ 16 ∷ 17 ∷ 18 ∷ 19 ∷ 20 ∷ 21 ∷ 22 ∷ 23 ∷ []) × (readHeader b .verdict ≡ Refused r)
+  pub field-inside : (b : List ℕ) (tag p long : ℕ) → findField b tag ≡ At (place p) long
+      → (readHeader b .verdict ≡ Good) × (p + long ≤ lengthField b + 12) × (lengthField b + 76 ≤ length b)
   -- An offer: 71, 43 or 30 to 42. By 71 and 43 nothing changes at all; any other adds one to its own tally. Store and marks stay
   -- by every number but 41, which bars its index.
   pub offer-numbers : (h : Head) (x : Session) (c : List ℕ) (r : Reason) → verdictOf h x c ≡ NotTaken r
@@ -91,20 +96,24 @@ pub record Demand1 : Type 0 where
       → blockRequest h store marks j l .answer ≡ BlockUnverified i p → Ends (h .s) (l .output) (blockRequest h store marks j l .lent .output)
   pub block-scratch : (h : Head) (store marks : List ℕ) (j : ℕ) (l : Lent) → rebuildWrong h store marks l ≡ false → j < h .n → h .s ≤ length (l .output)
       → (blockRequest h store marks j l .lent .scratch ≡ zeros (h .m * h .s)) × (blockRequest h store marks j l .lent .numbers ≡ zeros 1024)
-  -- The prefix and the missing list: 71 or 52.
+  -- The prefix, the missing list and its ranges: 71 or 52.
   pub prefix-refused : (h : Head) (store marks out : List ℕ) (r : Reason) → prefixGiven h store marks out .answer ≡ NoPrefix r
       → Leaves r (71 ∷ 52 ∷ []) out (prefixGiven h store marks out .output)
   pub prefix-ends : (h : Head) (store marks out : List ℕ) (i : BlockNumber) (p : ℕ) → prefixGiven h store marks out .answer ≡ PrefixUnverified i (place p)
       → Ends p out (prefixGiven h store marks out .output)
-  pub missing-refused : (size n m s : ℕ) (marks out : List ℕ) (r : Reason) → listMissing size n m s marks out .answer ≡ NotListed r
-      → Leaves r (71 ∷ 52 ∷ []) out (listMissing size n m s marks out .output)
-  pub missing-ends : (size n m s : ℕ) (marks out : List ℕ) (k : ℕ) → listMissing size n m s marks out .answer ≡ Count k
-      → Ends k out (listMissing size n m s marks out .output)
+  pub missing-refused : (h : Head) (marks out : List ℕ) (r : Reason) → listMissing h marks out .answer ≡ NotListed r
+      → Leaves r (71 ∷ 52 ∷ []) out (listMissing h marks out .output)
+  pub missing-ends : (h : Head) (marks out : List ℕ) (k : ℕ) → listMissing h marks out .answer ≡ Count k
+      → Ends k out (listMissing h marks out .output)
+  pub ranges-refused : (h : Head) (marks out : List ℕ) (r : Reason) → listRanges h marks out .answer ≡ NotListed r
+      → Leaves r (71 ∷ 52 ∷ []) out (listRanges h marks out .output)
+  pub ranges-ends : (h : Head) (marks out : List ℕ) (k : ℕ) → listRanges h marks out .answer ≡ Count k
+      → Ends k out (listRanges h marks out .output)
   -- A note: 71 or 52 to write one, 70 or 52 to read one, and then of the UUID nothing but zeros.
-  pub note-refused : (uuid : List ℕ) (size n m s : ℕ) (marks out : List ℕ) (r : Reason) → writeNote uuid size n m s marks out .answer ≡ NotWritten r
-      → Leaves r (71 ∷ 52 ∷ []) out (writeNote uuid size n m s marks out .output)
-  pub note-ends : (uuid : List ℕ) (size n m s : ℕ) (marks out : List ℕ) (k : ℕ) → writeNote uuid size n m s marks out .answer ≡ Took k
-      → Ends k out (writeNote uuid size n m s marks out .output)
+  pub note-refused : (h : Head) (marks out : List ℕ) (r : Reason) → writeNote h marks out .answer ≡ NotWritten r
+      → Leaves r (71 ∷ 52 ∷ []) out (writeNote h marks out .output)
+  pub note-ends : (h : Head) (marks out : List ℕ) (k : ℕ) → writeNote h marks out .answer ≡ Took k
+      → Ends k out (writeNote h marks out .output)
   pub reading-refused : (b out : List ℕ) (r : Reason) → readNote b out .answer .verdict ≡ Refused r
       → Leaves r (70 ∷ 52 ∷ []) out (readNote b out .output) × (readNote b out .answer ≡ refusedNote r)
   pub reading-ends : (b out : List ℕ) → readNote b out .answer .verdict ≡ Good → Ends (2 * readNote b out .answer .ranges) out (readNote b out .output)

@@ -131,7 +131,7 @@ pub record Demand3 : Type 0 where
   pub missing-exact : (h : Head) (x : Session) → Right h x
       → (risingFrom 0 (missing (h .n) (x .marks)) ≡ true) × ((j : ℕ) → (among j (missing (h .n) (x .marks)) ≡ true) ↔ Open h x j)
   pub missing-given : (h : Head) (x : Session) → Right h x → (out : List ℕ) → length (missing (h .n) (x .marks)) ≤ length out
-      → _≡_ {A = Answered Listed} (listMissing (h .size) (h .n) (h .m) (h .s) (x .marks) out)
+      → _≡_ {A = Answered Listed} (listMissing h (x .marks) out)
       (record { answer = Count (length (missing (h .n) (x .marks))); output = put out 0 (missing (h .n) (x .marks)) })
   -- Beside the demand: the hand-out gives the same data, and complete is said only of bytes that have the header's hash.
   pub content-known : (h : Head) (x : Session) → Right h x → h .n ≤ heldIn x → (d : List ℕ) → Fitting h x d → HandsOut h x d

@@ -7,10 +7,12 @@ use lib.ListN.{replicate}
 use Rattle.gf16.specs.Field.{mul, inv}
 use Rattle.cauchy.specs.Code.{codeBlock}
 use Rattle.cauchy.specs.Decode.{decode}
+use Rattle.little.specs.Runs.{zeros}
 use Rattle.sfc.specs.format.Limits.{wantedBlocks}
-use Rattle.sfc.specs.note.Missing.{Range, ranges}
+use Rattle.sfc.specs.note.Ranges.{Range, ranges}
 use Rattle.sfc.specs.note.Note.{writeNote, readNote}
 use Rattle.sfc.specs.note.NoteTheorems.{taken}
+use Rattle.sfc.specs.declared.format.header.Head.{Head}
 use Rattle.sfc.specs.declared.answer.written.Written.the-variants.{Bytes as Took}
 
 abbrev pub range : ℕ → ℕ → Range
@@ -19,6 +21,24 @@ range a b = record { first = a; last = b }
 -- the file of C10: 14 bytes in 4 blocks of 4 with one recovery block, of which 0, 2 and 4 are held
 abbrev pub sampleUuid : List ℕ
 sampleUuid = 0 ∷ 1 ∷ 2 ∷ 3 ∷ 4 ∷ 5 ∷ 6 ∷ 7 ∷ 8 ∷ 9 ∷ 10 ∷ 11 ∷ 12 ∷ 13 ∷ 14 ∷ 15 ∷ []
+
+abbrev pub sampleHead : Head
+sampleHead = record {
+  «header_length» = 331;
+  uuid = sampleUuid;
+  size = 14;
+  format = 0;
+  name = zeros 255;
+  «name_length» = 0;
+  hash = zeros 32;
+  n = 4;
+  m = 1;
+  s = 4;
+  erasure = 1;
+  compression = 0;
+  flags = 0;
+  priorities = 0;
+}
 
 abbrev pub sampleMarks : List ℕ
 sampleMarks = 1 ∷ 0 ∷ 1 ∷ 0 ∷ 1 ∷ []
@@ -46,5 +66,5 @@ pub record Worked : Type 0 where
   -- the ranges of a missing list
   pub c9 : ranges (0 ∷ 1 ∷ 2 ∷ 5 ∷ []) ≡ range 0 2 ∷ range 5 5 ∷ []
   -- the note, written into a longer output and read back
-  pub c10 : writeNote sampleUuid 14 4 1 4 sampleMarks (replicate 40 7) ≡ record { answer = Took 39; output = sampleNote ++ (7 ∷ []) }
+  pub c10 : writeNote sampleHead sampleMarks (replicate 40 7) ≡ record { answer = Took 39; output = sampleNote ++ (7 ∷ []) }
   pub c10-read : readNote sampleNote (replicate 5 7) ≡ taken sampleUuid (range 1 1 ∷ range 3 3 ∷ []) (replicate 5 7)

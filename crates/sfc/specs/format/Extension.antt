@@ -1,6 +1,6 @@
 -- The extension fields of a header region (document 01, "The bytes"). Assumes nothing: these are definitions.
 use Prim.Native.Nat.{ℕ, zero, suc, _+_, _*_}
-use mathlib.Core.Bool.{Bool, true, cond, not, _&&_, _||_}
+use mathlib.Core.Bool.{Bool, cond, not, _&&_, _||_}
 use mathlib.Core.List.{List, [], _∷_, _++_, map}
 use lib.Dec.{ltb, leb, eqb}
 use lib.ListN.{length, drop}
@@ -17,6 +17,11 @@ pub record Field : Type 0 where
 abbrev pub fieldBytes : Field → List ℕ
 fieldBytes f = bytesOf 2 (f .tag) ++ bytesOf 4 (length (f .value)) ++ f .value
 
+-- fields as they are stored, each after the one before
+unfoldable pub joinedFields : List Field → List ℕ
+joinedFields [] = []
+joinedFields (f ∷ fs) = fieldBytes f ++ joinedFields fs
+
 -- the field at the front of e
 abbrev pub fieldAt : List ℕ → Field
 fieldAt e = record { tag = le e 0 2; value = part e 6 (le e 2 4) }
@@ -25,7 +30,11 @@ fieldAt e = record { tag = le e 0 2; value = part e 6 (le e 2 4) }
 unfoldable pub wholeField : List ℕ → Bool
 wholeField e = leb 6 (length e) && leb (6 + le e 2 4) (length e)
 
--- the whole fields from the front of e on, and what is left behind them; the first argument only bounds their number
+-- where the field after it begins; 0 where no whole field is at the front
+unfoldable pub nextField : List ℕ → ℕ
+nextField e = cond (wholeField e) (6 + le e 2 4) 0
+
+-- the whole fields from the front of e on, and what is left after them; the first argument only bounds their number
 unfoldable pub fieldsIn : ℕ → List ℕ → List Field
 fieldsIn zero e = []
 fieldsIn (suc most) e = cond (wholeField e) (fieldAt e ∷ fieldsIn most (drop (6 + le e 2 4) e)) []
@@ -33,6 +42,13 @@ fieldsIn (suc most) e = cond (wholeField e) (fieldAt e ∷ fieldsIn most (drop (
 unfoldable pub leftIn : ℕ → List ℕ → List ℕ
 leftIn zero e = e
 leftIn (suc most) e = cond (wholeField e) (leftIn most (drop (6 + le e 2 4) e)) e
+
+-- all of them, and what is left after them all: no field has fewer than six bytes (specs/format/FieldTheorems.antt)
+abbrev pub fieldsOf : List ℕ → List Field
+fieldsOf e = fieldsIn (length e) e
+
+abbrev pub leftOf : List ℕ → List ℕ
+leftOf e = leftIn (length e) e
 
 -- the rules for a field of this tag and length, in a header of so many blocks (N+M) and these flags
 unfoldable pub ruleBroken : ℕ → ℕ → ℕ → ℕ → Bool
@@ -45,9 +61,9 @@ ruleBroken blocks flags tag len =
 abbrev pub fieldWrong : ℕ → ℕ → Field → Bool
 fieldWrong blocks flags f = ruleBroken blocks flags (f .tag) (length (f .value))
 
--- 21, of the bytes e behind the priority list: the fields do not fill them, or do not rise, or one breaks a rule
+-- 21, of the bytes e after the priority list: the fields do not fill them, or do not rise, or one breaks a rule
 unfoldable pub extensionWrong : ℕ → ℕ → List ℕ → Bool
 extensionWrong blocks flags e =
-    ltb 0 (length (leftIn (length e) e))
-    || not (risingFrom 0 (map (λ (f : Field). f .tag) (fieldsIn (length e) e)))
-    || any (fieldWrong blocks flags) (fieldsIn (length e) e)
+    ltb 0 (length (leftOf e))
+    || not (risingFrom 0 (map (λ (f : Field). f .tag) (fieldsOf e)))
+    || any (fieldWrong blocks flags) (fieldsOf e)

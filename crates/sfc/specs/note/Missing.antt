@@ -1,14 +1,15 @@
--- Which data blocks are unknown, the ranges that they make, and the call that lists them (document 01, "Resend note and
--- listing"). Assumes nothing: these are definitions.
-use Prim.Native.Nat.{ℕ, suc, _+_}
-use mathlib.Core.Bool.{Bool, true, cond, _&&_}
+-- Which data blocks are unknown, and the call that lists them (document 01, "Resend note and listing"). Assumes nothing: these
+-- are definitions.
+use Prim.Native.Nat.{ℕ, suc}
+use mathlib.Core.Bool.{cond}
 use mathlib.Core.List.{List, [], _∷_}
-use lib.Dec.{ltb, leb, eqb}
+use lib.Dec.{ltb, leb}
 use lib.ListN.{length, take}
 use Rattle.little.specs.Parts.{put}
 use Rattle.sfc.specs.answer.Numbers.{Check, checked, Answered}
 use Rattle.sfc.specs.session.Marks.{isHeld, heldCount}
 use Rattle.sfc.specs.session.Lent.{marksWrong}
+use Rattle.sfc.specs.declared.format.header.Head.{Head}
 use Rattle.sfc.specs.declared.answer.reason.Reason.{Reason}
 use Rattle.sfc.specs.declared.note.missing.Listed.{Listed}
 use Rattle.sfc.specs.declared.note.missing.Listed.the-variants.{Count, Refused}
@@ -22,39 +23,14 @@ unheldFrom i (k ∷ ks) = cond (isHeld k) (unheldFrom (suc i) ks) (i ∷ unheldF
 unfoldable pub missing : ℕ → List ℕ → List ℕ
 missing n marks = cond (leb n (heldCount marks)) [] (unheldFrom 0 (take n marks))
 
--- ---- ranges
-
-pub record Range : Type 0 where
-  pub first : ℕ
-  pub last : ℕ
-
--- a number put before ranges: it joins the first of them, or is a range of its own
-unfoldable pub putBefore : ℕ → List Range → List Range
-putBefore i [] = record { first = i; last = i } ∷ []
-putBefore i (r ∷ rs) =
-    cond (eqb (suc i) (r .first)) (record { first = i; last = r .last } ∷ rs) (record { first = i; last = i } ∷ r ∷ rs)
-
--- the ranges of a rising list of numbers
-unfoldable pub ranges : List ℕ → List Range
-ranges [] = []
-ranges (i ∷ is) = putBefore i (ranges is)
-
--- no range is empty, the first begins at `least` or later, and a number lies between each and the next
-unfoldable pub apartFrom : ℕ → List Range → Bool
-apartFrom least [] = true
-apartFrom least (r ∷ rs) = leb least (r .first) && leb (r .first) (r .last) && apartFrom (r .last + 2) rs
-
-abbrev pub maximal : List Range → Bool
-maximal rs = apartFrom 0 rs
-
 -- ---- the call
 
-abbrev pub missingChecks : ℕ → ℕ → ℕ → ℕ → List ℕ → List ℕ → List Check
-missingChecks size n m s marks out =
-    (marksWrong size n m s marks, 71) ∷ (ltb (length out) (length (missing n marks)), 52) ∷ []
+abbrev pub missingChecks : Head → List ℕ → List ℕ → List Check
+missingChecks h marks out =
+    (marksWrong (h .size) (h .n) (h .m) (h .s) marks, 71) ∷ (ltb (length out) (length (missing (h .n) marks)), 52) ∷ []
 
-unfoldable pub listMissing : ℕ → ℕ → ℕ → ℕ → List ℕ → List ℕ → Answered Listed
-listMissing size n m s marks out = record {
-  answer = checked (missingChecks size n m s marks out) Refused (Count (length (missing n marks)));
-  output = checked (missingChecks size n m s marks out) (λ (r : Reason). out) (put out 0 (missing n marks));
+unfoldable pub listMissing : Head → List ℕ → List ℕ → Answered Listed
+listMissing h marks out = record {
+  answer = checked (missingChecks h marks out) Refused (Count (length (missing (h .n) marks)));
+  output = checked (missingChecks h marks out) (λ (r : Reason). out) (put out 0 (missing (h .n) marks));
 }

@@ -1,15 +1,17 @@
 -- The resend note: its bytes, writing one and reading one (document 01, "Resend note and listing"). Assumes nothing: these
 -- are definitions.
 use Prim.Native.Nat.{ℕ, zero, suc, _+_, _*_, _/_, _%_}
-use mathlib.Core.Bool.{Bool, cond, not, _||_}
+use mathlib.Core.Bool.{Bool, not, _||_}
 use mathlib.Core.List.{List, [], _∷_, _++_}
 use lib.Dec.{ltb, eqb}
-use lib.ListN.{length, getD, drop}
+use lib.ListN.{length, getD}
 use Rattle.little.specs.Parts.{part, put}
 use Rattle.little.specs.Runs.{zeros}
 use Rattle.sfc.specs.answer.Numbers.{Answered, Check, checked}
 use Rattle.sfc.specs.session.Lent.{marksWrong}
-use Rattle.sfc.specs.note.Missing.{Range, missing, ranges, maximal}
+use Rattle.sfc.specs.note.Missing.{missing}
+use Rattle.sfc.specs.note.Ranges.{Range, ranges, maximal, bounds}
+use Rattle.sfc.specs.declared.format.header.Head.{Head}
 use Rattle.sfc.specs.declared.answer.reason.Reason.{Reason}
 use Rattle.sfc.specs.declared.answer.reason.Checked.the-variants.{Good, Refused}
 use Rattle.sfc.specs.declared.note.resend.NoteRead.{NoteRead}
@@ -18,12 +20,12 @@ use Rattle.sfc.specs.declared.answer.written.Written.the-variants.{Bytes
 
 -- ---- big-endian fields
 
--- the number that `width` bytes from place `at` on make, the highest first; past the end a byte counts as 0
+-- what `width` bytes from place `at` on say, the highest first; past the end a byte counts as 0
 unfoldable pub be : List ℕ → ℕ → ℕ → ℕ
 be b at zero = 0
 be b at (suc width) = be b at width * 256 + getD b (at + width) 0
 
--- the `width` lowest bytes of a number, the highest first
+-- the `width` lowest bytes of v, the highest first
 unfoldable pub bigBytes : ℕ → ℕ → List ℕ
 bigBytes zero v = []
 bigBytes (suc width) v = bigBytes width (v / 256) ++ (v % 256 ∷ [])
@@ -43,22 +45,18 @@ noteOf uuid rs = bigBytes 4 (19 + 8 * length rs) ++ (1 ∷ (uuid ++ (bigBytes 2 
 
 -- ---- writing
 
-abbrev pub noteFor : List ℕ → ℕ → List ℕ → List ℕ
-noteFor uuid n marks = noteOf uuid (ranges (missing n marks))
+abbrev pub noteFor : Head → List ℕ → List ℕ
+noteFor h marks = noteOf (h .uuid) (ranges (missing (h .n) marks))
 
-abbrev pub noteChecks : List ℕ → ℕ → ℕ → ℕ → ℕ → List ℕ → List ℕ → List Check
-noteChecks uuid size n m s marks out =
-    (marksWrong size n m s marks, 71) ∷ (ltb (length out) (length (noteFor uuid n marks)), 52) ∷ []
+abbrev pub noteChecks : Head → List ℕ → List ℕ → List Check
+noteChecks h marks out =
+    (marksWrong (h .size) (h .n) (h .m) (h .s) marks, 71) ∷ (ltb (length out) (length (noteFor h marks)), 52) ∷ []
 
-unfoldable pub writeNote : List ℕ → ℕ → ℕ → ℕ → ℕ → List ℕ → List ℕ → Answered Written
-writeNote uuid size n m s marks out = record {
-  answer = checked (noteChecks uuid size n m s marks out) Unwritten (Bytes (length (noteFor uuid n marks)));
-  output = checked (noteChecks uuid size n m s marks out) (λ (r : Reason). out) (put out 0 (noteFor uuid n marks));
+unfoldable pub writeNote : Head → List ℕ → List ℕ → Answered Written
+writeNote h marks out = record {
+  answer = checked (noteChecks h marks out) Unwritten (Bytes (length (noteFor h marks)));
+  output = checked (noteChecks h marks out) (λ (r : Reason). out) (put out 0 (noteFor h marks));
 }
-
--- what stands from a pair on once index i is put before it: it joins that pair, or is a pair of its own
-unfoldable pub indexPut : Bool → ℕ → List ℕ → List ℕ
-indexPut joined i b = cond joined (bigBytes 4 i ++ drop 4 b) (bigBytes 4 i ++ (bigBytes 4 i ++ b))
 
 -- ---- reading
 
@@ -83,11 +81,6 @@ malformed b =
     || not (eqb (be b 0 4) (19 + 8 * countIn b))
     || not (eqb (getD b 4 0) 1)
     || not (maximal (rangesIn b))
-
--- the numbers that a reader is given: first and last of each range
-unfoldable pub bounds : List Range → List ℕ
-bounds [] = []
-bounds (r ∷ rs) = r .first ∷ r .last ∷ bounds rs
 
 abbrev pub readChecks : List ℕ → List ℕ → List Check
 readChecks b out = (malformed b, 70) ∷ (ltb (length out) (2 * countIn b), 52) ∷ []

@@ -1,11 +1,11 @@
 -- What is proved of the missing list, of ranges and of notes (document 01, "Resend note and listing"; minutes, demand 3):
--- statements. Proved in proofs/note/MissingExact, RangesExact, NoteBack and NoteExact.
-use Prim.Native.Nat.{ℕ, _*_, _^_, _≤_, _<_}
+-- statements. Proved in proofs/note/MissingExact, RangesExact, RangesFew, NoteBack and NoteExact.
+use Prim.Native.Nat.{ℕ, _+_, _*_, _^_, _≤_, _<_}
 use mathlib.Core.Path.{_≡_}
 use mathlib.Core.Logic.{_↔_}
 use mathlib.Core.Bool.{Bool, true, false, not, _&&_}
 use mathlib.Core.List.{List, [], _∷_}
-use lib.Dec.{leb, ltb, eqb}
+use lib.Dec.{leb, ltb}
 use lib.ListN.{length, getD}
 use Rattle.little.specs.Parts.{put}
 use Rattle.little.specs.Fields.{Bytes}
@@ -13,8 +13,12 @@ use Rattle.little.specs.Runs.{any, among, risingFrom}
 use Rattle.sfc.specs.session.Marks.{isHeld, heldCount}
 use Rattle.sfc.specs.session.Lent.{marksWrong}
 use Rattle.sfc.specs.answer.Numbers.{Answered}
-use Rattle.sfc.specs.note.Missing.{missing, Range, ranges, maximal}
-use Rattle.sfc.specs.note.Note.{noteOf, malformed, bounds, readNote}
+use Rattle.sfc.specs.note.Missing.{missing}
+use Rattle.sfc.specs.note.Ranges.{Range, ranges, maximal, bounds, boundsFor, listRanges}
+use Rattle.sfc.specs.note.Note.{noteOf, malformed, readNote}
+use Rattle.sfc.specs.declared.format.header.Head.{Head}
+use Rattle.sfc.specs.declared.note.missing.Listed.{Listed}
+use Rattle.sfc.specs.declared.note.missing.Listed.the-variants.{Count}
 use Rattle.sfc.specs.declared.note.resend.NoteRead.{NoteRead}
 use Rattle.sfc.specs.declared.answer.reason.Checked.the-variants.{Good}
 
@@ -27,11 +31,21 @@ pub record MissingExact : Type 0 where
       → among i (missing n marks) ≡ (ltb (heldCount marks) n && (ltb i n && not (isHeld (getD marks i 0))))
   pub rising : (n : ℕ) (marks : List ℕ) → risingFrom 0 (missing n marks) ≡ true
 
--- the ranges of a rising list are maximal and have just its numbers, and no other maximal ranges have the same
+-- the ranges of a rising list are maximal and have just its indices, and no other maximal ranges have the same
 pub record RangesExact : Type 0 where
   pub rise : (is : List ℕ) → risingFrom 0 is ≡ true → maximal (ranges is) ≡ true
   pub cover : (is : List ℕ) → risingFrom 0 is ≡ true → (i : ℕ) → covered i (ranges is) ≡ among i is
   pub only-one : (rs qs : List Range) → maximal rs ≡ true → maximal qs ≡ true → ((i : ℕ) → covered i rs ≡ covered i qs) → rs ≡ qs
+
+-- how much to lend for the ranges of n data blocks: each takes two entries, and there are at most half of n + 1; so 1,024
+-- entries are enough for 1,024 blocks
+pub record RangesFew : Type 0 where
+  pub bounds-long : (rs : List Range) → length (bounds rs) ≡ 2 * length rs
+  pub ranges-few : (n : ℕ) (marks : List ℕ) → 2 * length (ranges (missing n marks)) ≤ n + 1
+  pub bounds-few : (n : ℕ) (marks : List ℕ) → n ≤ 1024 → length (bounds (ranges (missing n marks))) ≤ 1024
+  -- with right marks and so much lent, the call always lists them
+  pub ranges-given : (h : Head) (marks out : List ℕ) → marksWrong (h .size) (h .n) (h .m) (h .s) marks ≡ false → 1024 ≤ length out
+      → _≡_ {A = Answered Listed} (listRanges h marks out) (record { answer = Count (length (boundsFor h marks)); output = put out 0 (boundsFor h marks) })
 
 -- every index has 32 bits
 abbrev pub Small : List Range → Type 0
@@ -58,5 +72,5 @@ pub record NoteTheorems : Type 0 where
   pub note-exact : (b : List ℕ) → Bytes b
       → (malformed b ≡ false) ↔ ((uuid : List ℕ) × (rs : List Range) × (Sayable uuid rs) × (b ≡ noteOf uuid rs))
   -- what the writer says can be said, in at most 512 ranges
-  pub note-written : (uuid : List ℕ) (size n m s : ℕ) (marks : List ℕ) → length uuid ≡ 16 → Bytes uuid → marksWrong size n m s marks ≡ false
-      → Sayable uuid (ranges (missing n marks)) × (length (ranges (missing n marks)) ≤ 512)
+  pub note-written : (h : Head) (marks : List ℕ) → length (h .uuid) ≡ 16 → Bytes (h .uuid) → marksWrong (h .size) (h .n) (h .m) (h .s) marks ≡ false
+      → Sayable (h .uuid) (ranges (missing (h .n) marks)) × (length (ranges (missing (h .n) marks)) ≤ 512)

@@ -13,7 +13,7 @@ use Rattle.sfc.specs.format.Bytes.{padded}
 use Rattle.little.specs.Runs.{any, zeros}
 use Rattle.sfc.specs.answer.Numbers.{Check, checked, passes, Answered}
 use Rattle.sfc.specs.format.Limits.{wantedBlocks, lengthWrong}
-use Rattle.sfc.specs.format.Extension.{Field, fieldsIn}
+use Rattle.sfc.specs.format.Extension.{Field, fieldsOf}
 use Rattle.sfc.specs.format.Header.{magic, trailerMagic, regionChecks}
 use Rattle.sfc.specs.format.Chunk.{chunkMagic, endMarker, typeFor}
 use Rattle.sfc.specs.declared.answer.reason.Reason.{Reason}
@@ -154,7 +154,7 @@ abbrev pub isReserved : Field → Bool
 isReserved f = leb 0x0010 (f .tag) && leb (f .tag) 0x0012
 
 unfoldable pub hasReserved : List ℕ → Bool
-hasReserved e = any isReserved (fieldsIn (length e) e)
+hasReserved e = any isReserved (fieldsOf e)
 
 -- 60: the last two tests are 13, and 14 to 21, of the region so made
 unfoldable pub inputWrong : Input → Bool

@@ -1,55 +1,59 @@
 // Where a header's extension field stands, for callers that want its value.
 use crate::answer::places::BytePlace;
-use crate::format::limits::is_length_wrong;
+use crate::answer::reason::Checked;
+use crate::answer::reason::Reason;
+use crate::format::extension::FIELD_FRONT;
+use crate::format::extension::next_field;
+use crate::format::header::read_header;
+use crate::format::layout::AFTER_LENGTH;
+use crate::format::layout::HEADER_BEFORE_LISTS;
+use crate::format::layout::REGION_AT;
 ghost use mathlib.Core.Path.{_≡_};
 ghost use Prim.Native.Nat.{_+_, _<_, _^_};
 ghost use lib.ListN.{length};
-ghost use Rattle.sfc.specs.format.Lookup.{foundIn, findField};
+ghost use Rattle.sfc.specs.format.Extension.{fieldsOf};
+ghost use Rattle.sfc.specs.format.Lookup.{foundAmong, findField};
 
 // The place in the input where a field's value begins, and its length.
 pub enum FieldFound {
     At(BytePlace, u32),
     Nothing,
+    Refused(Reason),
 }
 
-// Each turn looks at one field; there are no more fields than bytes.
+// Among the fields e, of which the first begins at place `start` of the input.
 fn find_in(e: &[u8], tag: u16, start: u32) -> FieldFound
     requires { ⌜ start + length (now e) < 2 ^ 31 ⌝ }
-    ensures { λ r. ⌜ r ≡ foundIn (length (now (e .entry))) tag start (now (e .entry)) ⌝ }
+    ensures { λ r. ⌜ r ≡ foundAmong tag start (fieldsOf (now (e .entry))) ⌝ }
 {
     let mut at = 0;
-    let mut most = e.len();
-    while 0 < most {
+    while at < e.len() {
         let rest = &e[at..];
-        if rest.len() < 6 {
-            return FieldFound::Nothing;
-        }
-        let value = little::read32(rest, 2);
-        if rest.len() - 6 < value as usize {
+        let next = next_field(rest);
+        if next == 0 {
             return FieldFound::Nothing;
         }
         if little::read16(rest, 0) == tag {
-            return FieldFound::At(BytePlace(start + at as u32 + 6), value);
+            let value = start + (at + FIELD_FRONT) as u32;
+            return FieldFound::At(BytePlace(value), (next - FIELD_FRONT) as u32);
         }
-        most -= 1;
-        at = at + 6 + value as usize;
+        at += next;
     }
     FieldFound::Nothing
 }
 
-// The first field with this tag in the header region of an input, accepted or not; an H out of its range has no region.
+// The first field with this tag of an accepted header; of a refused one its number, and nothing of its fields.
 pub fn find_field(input: &[u8], tag: u16) -> FieldFound
     ensures { λ r. ⌜ r ≡ findField (now (input .entry)) tag ⌝ }
 {
-    let h = little::read32(input, 8);
-    if is_length_wrong(h) {
-        return FieldFound::Nothing;
+    let header = read_header(input);
+    let verdict = header.verdict;
+    match verdict {
+        Checked::Refused(reason) => FieldFound::Refused(reason),
+        Checked::Good => {
+            let from = REGION_AT + HEADER_BEFORE_LISTS + 4 * header.head.priorities as usize;
+            let end = AFTER_LENGTH + header.head.header_length as usize;
+            find_in(&input[from..end], tag, from as u32)
+        }
     }
-    let start = 343 + 4 * little::read16(input, 341) as u32;
-    let from = start as usize;
-    let end = little::least(12 + h as usize, input.len());
-    if end < from {
-        return FieldFound::Nothing;
-    }
-    find_in(&input[from..end], tag, start)
 }

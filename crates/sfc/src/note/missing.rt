@@ -1,5 +1,6 @@
 // Which data blocks are unknown: the marks that do not say held, listed where too few do.
 use crate::answer::reason::Reason;
+use crate::format::header::Head;
 use crate::session::lent::is_marks_wrong;
 use crate::session::marks::held_count;
 ghost use mathlib.Core.Path.{_≡_};
@@ -40,13 +41,13 @@ fn put_unheld(marks: &[u8], count: usize, out: &mut [u32])
 }
 
 // The unknown data indices, rising, each once.
-pub fn list_missing(size: u64, n: u32, m: u32, s: u32, marks: &[u8], out: &mut [u32]) -> Listed
-    ensures { λ r. ⌜ _≡_ {A = Answered Listed} (record { answer = r; output = now (out .exit) }) (listMissing size n m s (now (marks .entry)) (now (out .entry))) ⌝ }
+pub fn list_missing(h: Head, marks: &[u8], out: &mut [u32]) -> Listed
+    ensures { λ r. ⌜ _≡_ {A = Answered Listed} (record { answer = r; output = now (out .exit) }) (listMissing h (now (marks .entry)) (now (out .entry))) ⌝ }
 {
-    if is_marks_wrong(size, n, m, s, marks) {
+    if is_marks_wrong(h.size, h.n, h.m, h.s, marks) {
         return Listed::Refused(Reason::Lent);
     }
-    let among = open_marks(n, marks);
+    let among = open_marks(h.n, marks);
     let count = among - held_count(&marks[..among]);
     if out.len() < count {
         return Listed::Refused(Reason::OutputShort);

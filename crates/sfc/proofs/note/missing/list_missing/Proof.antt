@@ -9,7 +9,7 @@ use Rattle.sfc.proofs.note.missing.list_missing.Tie as tie
 returns : tie.Need-returns
 returns c =
     let a = c .before .before .before .before .args in
-    list-wrong (a .size) (a .n) (a .m) (a .s) (a .marks .now) _ (sym (c .before .is-marks-wrong .ensures) ∙ c .if1 .taken)
+    list-wrong (a .h) (a .marks .now) _ (sym (c .before .is-marks-wrong .ensures) ∙ c .if1 .taken)
 
 slice-aggregate-held-count : tie.Need-slice-aggregate-held-count
 slice-aggregate-held-count c =
@@ -17,7 +17,7 @@ slice-aggregate-held-count c =
     let w = c .before .before .before .is-marks-wrong in
     let o = c .before .open-marks in
     let f = c .before .before .if1 .left in
-    let g = among-right (a .size) (a .n) (a .m) (a .s) (a .marks .now) _ (o .result) (w .ensures) f (o .ensures .0) in
+    let g = among-right (a .h) (a .marks .now) _ (o .result) (w .ensures) f (o .ensures .0) in
     sym (g .2)
 
 sub-count : tie.Need-sub-count
@@ -26,7 +26,7 @@ sub-count c =
     let w = c .before .before .before .before .is-marks-wrong in
     let o = c .before .before .open-marks in
     let f = c .before .before .before .if1 .left in
-    let g = among-right (a .size) (a .n) (a .m) (a .s) (a .marks .now) _ (o .result) (w .ensures) f (o .ensures .0) in
+    let g = among-right (a .h) (a .marks .now) _ (o .result) (w .ensures) f (o .ensures .0) in
     let u = unheld-left (o .result) (a .marks .now) _ (g .0) (c .held-count .ensures) in
     search needs
 
@@ -36,9 +36,9 @@ returns-2 c =
     let w = c .before .before .before .before .before .is-marks-wrong in
     let o = c .before .before .before .open-marks in
     let f = c .before .before .before .before .if1 .left in
-    let g = among-right (a .size) (a .n) (a .m) (a .s) (a .marks .now) _ (o .result) (w .ensures) f (o .ensures .0) in
+    let g = among-right (a .h) (a .marks .now) _ (o .result) (w .ensures) f (o .ensures .0) in
     let u = unheld-left (o .result) (a .marks .now) _ (g .0) (c .before .held-count .ensures) in
-    list-short (a .size) (a .n) (a .m) (a .s) (a .marks .now) _ (sym (w .ensures) ∙ f) (o .result) _ (o .ensures .1) (u .1) (c .if2 .taken)
+    list-short (a .h) (a .marks .now) _ (sym (w .ensures) ∙ f) (o .result) _ (o .ensures .1) (u .1) (c .if2 .taken)
 
 slice-aggregate-put-unheld : tie.Need-slice-aggregate-put-unheld
 slice-aggregate-put-unheld c =
@@ -46,7 +46,7 @@ slice-aggregate-put-unheld c =
     let w = c .before .before .before .before .before .before .is-marks-wrong in
     let o = c .before .before .before .before .open-marks in
     let f = c .before .before .before .before .before .if1 .left in
-    let g = among-right (a .size) (a .n) (a .m) (a .s) (a .marks .now) _ (o .result) (w .ensures) f (o .ensures .0) in
+    let g = among-right (a .h) (a .marks .now) _ (o .result) (w .ensures) f (o .ensures .0) in
     sym (g .2)
 
 put-unheld-requires : tie.Need-put-unheld-requires
@@ -55,7 +55,7 @@ put-unheld-requires c κs =
     let w = c .before .before .before .before .before .before .before .is-marks-wrong in
     let o = c .before .before .before .before .before .open-marks in
     let f = c .before .before .before .before .before .before .if1 .left in
-    let g = among-right (a .size) (a .n) (a .m) (a .s) (a .marks .now) _ (o .result) (w .ensures) f (o .ensures .0) in
+    let g = among-right (a .h) (a .marks .now) _ (o .result) (w .ensures) f (o .ensures .0) in
     let u = unheld-left (o .result) (a .marks .now) _ (g .0) (c .before .before .before .held-count .ensures) in
     (omega arith, u .1, c .before .before .if2 .left)
 
@@ -65,9 +65,9 @@ returns-3 c =
     let w = c .before .before .before .before .before .before .before .before .before .before .is-marks-wrong in
     let o = c .before .before .before .before .before .before .before .before .open-marks in
     let f = c .before .before .before .before .before .before .before .before .before .if1 .left in
-    let g = among-right (a .size) (a .n) (a .m) (a .s) (a .marks .now) _ (o .result) (w .ensures) f (o .ensures .0) in
+    let g = among-right (a .h) (a .marks .now) _ (o .result) (w .ensures) f (o .ensures .0) in
     let u = unheld-left (o .result) (a .marks .now) _ (g .0) (c .before .before .before .before .before .before .held-count .ensures) in
-    list-good (a .size) (a .n) (a .m) (a .s) (a .marks .now) _ (sym (w .ensures) ∙ f) (o .result) _ (o .ensures .1) (u .1) _ (c .before .before .before .before .before .if2 .left) (c .before .before .put-unheld .ensures)
+    list-good (a .h) (a .marks .now) _ (sym (w .ensures) ∙ f) (o .result) _ (o .ensures .1) (u .1) _ (c .before .before .before .before .before .if2 .left) (c .before .before .put-unheld .ensures)
 
 pub list-missing-spec : {M : Type 1} → statement M
 list-missing-spec =

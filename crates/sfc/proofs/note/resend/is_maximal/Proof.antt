@@ -4,7 +4,7 @@ use mathlib.Core.Path.{_≡_}
 use native.Mathlib.Omega.{arith}
 use mathlib.Core.Bool.{_&&_}
 use Prim.Native.Nat.{_*_}
-use Rattle.sfc.specs.note.Missing.{apartFrom, maximal}
+use Rattle.sfc.specs.note.Ranges.{apartFrom, maximal}
 use Rattle.sfc.specs.note.Note.{pairsFrom}
 use Rattle.sfc.proofs.note.NoteLaws.{judge-start, judge-turn, judge-end}
 use borrow.Author.Needs.{needs}

@@ -41,6 +41,8 @@ put-start-spec =
     (λ c. search needs)
     (λ c. search needs)
     (λ c. search needs)
+    (λ c. search needs)
+    (λ c. search needs)
     put-big-requires-2
     same-length
     returns)

@@ -1,12 +1,12 @@
--- `sfc::note::resend::read_big` meets its contract. The loop's invariant: the number is that of the first i bytes. Assumes nothing.
+-- `sfc::note::big::read_big` meets its contract. The loop's invariant: the number is that of the first i bytes. Assumes nothing.
 use Prim.Native.Nat.{_-_, _≤_}
 use mathlib.Core.Path.{_≡_, refl}
 use native.Mathlib.Omega.{arith}
 use Rattle.sfc.specs.note.Note.{be}
 use Rattle.sfc.proofs.note.BigLaws.{read-turn, read-fits}
 use borrow.Author.Needs.{needs}
-use Rattle.sfc.proofs.note.resend.read_big.Statement.{statement}
-use Rattle.sfc.proofs.note.resend.read_big.Tie as tie
+use Rattle.sfc.proofs.note.big.read_big.Statement.{statement}
+use Rattle.sfc.proofs.note.big.read_big.Tie as tie
 
 abbrev Inv-loop : tie.InvT-loop
 Inv-loop b at width v₀ i₀ v i = (i ≤ width) × (v ≡ be b at i)

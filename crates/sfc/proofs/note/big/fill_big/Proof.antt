@@ -1,4 +1,4 @@
--- `sfc::note::resend::fill_big` meets its contract. The loop's invariant: the bytes left to store and those stored are the bytes of the number. Assumes nothing.
+-- `sfc::note::big::fill_big` meets its contract. The loop's invariant: the bytes left to store and those stored are the bytes of the number. Assumes nothing.
 use Prim.Native.Nat.{_≤_}
 use mathlib.Core.Path.{_≡_, refl}
 use native.Mathlib.Omega.{arith}
@@ -8,8 +8,8 @@ use lib.ListN.{length-set}
 use Rattle.sfc.specs.note.Note.{bigBytes}
 use Rattle.sfc.proofs.note.BigLaws.{fill-start, fill-turn, fill-end}
 use borrow.Author.Needs.{needs}
-use Rattle.sfc.proofs.note.resend.fill_big.Statement.{statement}
-use Rattle.sfc.proofs.note.resend.fill_big.Tie as tie
+use Rattle.sfc.proofs.note.big.fill_big.Statement.{statement}
+use Rattle.sfc.proofs.note.big.fill_big.Tie as tie
 
 abbrev Inv-loop : tie.InvT-loop
 Inv-loop d₀ v rest₀ i₀ d rest i = (i ≤ length d₀) × (length d ≡ length d₀) × (bigBytes i rest ++ drop i d ≡ bigBytes (length d₀) v)

@@ -1,9 +1,9 @@
--- `sfc::note::resend::put_index` meets its contract: four bytes into the pair, or a pair of its own before it. Assumes nothing.
+-- `sfc::note::ranges::put_index_bytes` meets its contract: four bytes into the pair, or a pair of its own before it. Assumes nothing.
 use native.Mathlib.Omega.{arith}
-use Rattle.sfc.proofs.note.NoteLaws.{index-joined, index-own}
+use Rattle.sfc.proofs.note.PairLaws.{bytes-joined, bytes-own}
 use borrow.Author.Needs.{needs}
-use Rattle.sfc.proofs.note.resend.put_index.Statement.{statement}
-use Rattle.sfc.proofs.note.resend.put_index.Tie as tie
+use Rattle.sfc.proofs.note.ranges.put_index_bytes.Statement.{statement}
+use Rattle.sfc.proofs.note.ranges.put_index_bytes.Tie as tie
 
 put-big-requires : tie.Need-put-big-requires
 put-big-requires c κs = omega (arith, c .before .before .before .pre .1 (c .before .if1 .taken))
@@ -12,7 +12,7 @@ returns : tie.Need-returns
 returns c =
     let a = c .before .before .before .before .before .before .args in
     let j = c .before .before .before .before .if1 .taken in
-    index-joined (a .out .now) _ (a .k) (a .i) (a .joined) j (c .before .before .before .before .before .before .pre .1 j) (c .before .before .put-big .ensures)
+    bytes-joined (a .out .now) _ (a .k) (a .i) (a .joined) j (c .before .before .before .before .before .before .pre .1 j) (c .before .before .put-big .ensures)
 
 sub-own : tie.Need-sub-own
 sub-own c = let p = c .before .before .pre .2 (c .if1 .left) in search needs
@@ -28,10 +28,10 @@ returns-2 c =
     let a = c .before .before .before .before .before .before .before .before .before .before .args in
     let j = c .before .before .before .before .before .before .before .before .if1 .left in
     let p = c .before .before .before .before .before .before .before .before .before .before .pre .2 j in
-    index-own (a .out .now) _ _ (a .k) _ (a .i) (a .joined) j (omega arith) (c .before .before .before .before .before .before .before .before .before .before .pre .0) (c .before .before .before .before .before .before .put-big2 .ensures) (c .before .before .put-big3 .ensures)
+    bytes-own (a .out .now) _ _ (a .k) _ (a .i) (a .joined) j (omega arith) (c .before .before .before .before .before .before .before .before .before .before .pre .0) (c .before .before .before .before .before .before .put-big2 .ensures) (c .before .before .put-big3 .ensures)
 
-pub put-index-spec : {M : Type 1} → statement M
-put-index-spec =
+pub put-index-bytes-spec : {M : Type 1} → statement M
+put-index-bytes-spec =
     tie.close
     (tie.spec
     (λ c. search needs)

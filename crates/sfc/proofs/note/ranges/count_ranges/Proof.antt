@@ -1,10 +1,10 @@
--- `sfc::note::resend::count_ranges` meets its contract. The loop's invariant: the ranges of the marks from i on are counted, and it is known whether one begins there. Assumes nothing.
+-- `sfc::note::ranges::count_ranges` meets its contract. The loop's invariant: the ranges of the marks from i on are counted, and it is known whether one begins there. Assumes nothing.
 use mathlib.Core.Path.{_≡_}
 use native.Mathlib.Omega.{arith}
 use Rattle.sfc.proofs.note.RangeLaws.{Counting, count-start, count-own, count-same}
 use borrow.Author.Needs.{needs}
-use Rattle.sfc.proofs.note.resend.count_ranges.Statement.{statement}
-use Rattle.sfc.proofs.note.resend.count_ranges.Tie as tie
+use Rattle.sfc.proofs.note.ranges.count_ranges.Statement.{statement}
+use Rattle.sfc.proofs.note.ranges.count_ranges.Tie as tie
 
 abbrev Inv-loop : tie.InvT-loop
 Inv-loop marks count₀ joined₀ i₀ count joined i = Counting marks count joined i

@@ -1,9 +1,9 @@
--- `sfc::note::resend::put_big` meets its contract: the lent part comes back filled. Assumes nothing.
+-- `sfc::note::big::put_big` meets its contract: the lent part comes back filled. Assumes nothing.
 use mathlib.Core.Path.{refl}
 use Rattle.sfc.proofs.note.BigLaws.{put-filled}
 use borrow.Author.Needs.{needs}
-use Rattle.sfc.proofs.note.resend.put_big.Statement.{statement}
-use Rattle.sfc.proofs.note.resend.put_big.Tie as tie
+use Rattle.sfc.proofs.note.big.put_big.Statement.{statement}
+use Rattle.sfc.proofs.note.big.put_big.Tie as tie
 
 returns : tie.Need-returns
 returns c =
