@@ -1,4 +1,4 @@
--- Lists of checks, one behind the other: what a refusal and a good verdict of the first part say of the whole, and what an
+-- Lists of checks, one after the other: what a refusal and a good verdict of the first part say of the whole, and what an
 -- answer tells of them. Assumes nothing.
 use Prim.Native.Nat.{ℕ}
 use mathlib.Core.Path.{_≡_, refl, sym, ap, _∙_}
@@ -110,7 +110,7 @@ wrong-fails [] r e = refused-not-good r (sym e)
 wrong-fails ((true, k) ∷ cs) r e = refl
 wrong-fails ((false, k) ∷ cs) r e = wrong-fails cs r e
 
--- ---- what an answer tells of the checks behind it, whatever form it has
+-- ---- what an answer tells of the checks that it came from, whatever form it has
 
 -- an answer that is no refusal was let through by every check
 pub let-through : {A : Type 0} (refuse : Reason → A) (cs : List Check) (good v : A) → ((r : Reason) → refuse r ≡ v → ⊥) → checked cs refuse good ≡ v

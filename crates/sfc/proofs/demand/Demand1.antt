@@ -13,13 +13,13 @@ use Rattle.little.specs.Runs.{any, zeros, among}
 use Rattle.sfc.specs.answer.Numbers.{Check, checked, verdict, passes, numberOf}
 use Rattle.sfc.specs.format.Header.{lengthField, headerChecks, regionOf, headOf, refusedHeader, acceptedHeader, readHeader}
 use Rattle.sfc.specs.format.Extension.{Field, fieldsOf}
-use Rattle.sfc.specs.format.Chunk.{indexOf, aloneChecks, checkChunk}
+use Rattle.sfc.specs.format.Chunk.{indexOf, aloneChecks, checkChunk, chunkLength, measureChecks, measureChunk}
 use Rattle.sfc.specs.format.Lookup.{foundAmong, extensionOf, extensionPlace, findField}
 use Rattle.sfc.specs.answer.Places.{number, place}
-use Rattle.sfc.specs.session.Marks.{isHeld, heldCount}
+use Rattle.sfc.specs.session.Marks.{isHeld, heldCount, barredCount}
 use Rattle.sfc.specs.session.Tallies.{counted, countedRefusal}
 use Rattle.sfc.specs.session.Session.{Session, mark, offerChecks, welcomed, verdictOf, withBlock, settled, after}
-use Rattle.sfc.specs.session.Lent.{lentWrong, Lent, rebuildWrong}
+use Rattle.sfc.specs.session.Lent.{lentWrong, Lent, rebuildWrong, countChecks, countMarks}
 use Rattle.sfc.specs.give.HandOut.{lentAfter, contentOf, handOutLent, contentChecks, handOutChecks, handOut}
 use Rattle.sfc.specs.give.Block.{blockGiven, blockLent, blockChecks, blockRequest}
 use Rattle.sfc.specs.give.Prefix.{prefixBlocks, prefixOf, prefixChecks, prefixGiven}
@@ -61,6 +61,10 @@ use Rattle.sfc.proofs.session.HeldLaws.{length-decode, length-content}
 use Rattle.sfc.proofs.give.GivenLaws.{lent-right, lent-output, complete-has-hash}
 use Rattle.sfc.proofs.format.FieldInside.{field-in-region}
 use Rattle.sfc.proofs.answer.RefusalLaws.{leaves, ends, early-told}
+use Rattle.sfc.proofs.format.ChunkLaws.{measuredSeen}
+use Rattle.sfc.specs.declared.format.chunk.ChunkMeasured.the-variants.{Length, Refused as NotMeasured}
+use Rattle.sfc.specs.declared.session.marks.MarksCounted.{MarksCounted}
+use Rattle.sfc.specs.declared.session.marks.MarksCounted.the-variants.{Counts, Refused as NotCounted}
 
 -- ---- the verdict in each kind of answer
 
@@ -114,6 +118,22 @@ chunk-refused h c r e =
     number-in (λ (k : ℕ). among k (71 ∷ 30 ∷ 31 ∷ 32 ∷ 33 ∷ 34 ∷ 35 ∷ 36 ∷ 37 ∷ 38 ∷ 39 ∷ 40 ∷ []) ≡ true) (aloneChecks h c) r
     (refl, (refl, (refl, (refl, (refl, (refl, (refl, (refl, (refl, (refl, (refl, (refl, (refl, tt)))))))))))))
     (tells chunkSeen NoChunk (Whole (number (indexOf c)) (place 48)) (λ q. refl) refl (aloneChecks h c) (Refused r) (ap chunkSeen e))
+
+measure-refused : (h : Head) (b : List ℕ) (r : Reason) → measureChunk h b ≡ NotMeasured r → OneOf r (71 ∷ 30 ∷ 31 ∷ 32 ∷ [])
+unfolding measureChunk any
+measure-refused h b r e =
+    number-in (λ (k : ℕ). among k (71 ∷ 30 ∷ 31 ∷ 32 ∷ []) ≡ true) (measureChecks h b) r (refl, (refl, (refl, (refl, (refl, tt)))))
+    (tells measuredSeen NotMeasured (Length (chunkLength b)) (λ q. refl) refl (measureChecks h b) (Refused r) (ap measuredSeen e))
+
+abbrev countedSeen : MarksCounted → Checked
+countedSeen (Counts held barred) = Good
+countedSeen (NotCounted r) = Refused r
+
+count-refused : (h : Head) (marks : List ℕ) (r : Reason) → countMarks h marks ≡ NotCounted r → OneOf r (71 ∷ [])
+unfolding countMarks any
+count-refused h marks r e =
+    number-in (λ (k : ℕ). among k (71 ∷ []) ≡ true) (countChecks h marks) r (refl, tt)
+    (tells countedSeen NotCounted (Counts (heldCount marks) (barredCount marks)) (λ q. refl) refl (countChecks h marks) (Refused r) (ap countedSeen e))
 
 -- ---- a field
 
@@ -393,6 +413,8 @@ pub demand1 : Demand1
 demand1 = record {
   header-refused = header-refused;
   chunk-refused = chunk-refused;
+  measure-refused = measure-refused;
+  count-refused = count-refused;
   field-refused = field-refused;
   field-inside = field-inside;
   offer-numbers = offer-numbers;

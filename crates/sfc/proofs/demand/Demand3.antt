@@ -29,7 +29,7 @@ use Rattle.sfc.proofs.session.EndLaws.{end-state}
 use Rattle.sfc.proofs.session.CountLaws.{tallies-count}
 use Rattle.sfc.proofs.session.SessionLaws.{RightLent, right-lent}
 use Rattle.sfc.proofs.note.MissingExact.{missing-exact}
-use Rattle.sfc.proofs.session.HeldLaws.{held-holding, right-code, block-decoded}
+use Rattle.sfc.proofs.session.HeldLaws.{right-code, block-decoded}
 use Rattle.sfc.proofs.give.GivenLaws.{gives-enough, gives-held, withholds, hands-out, complete-has-hash}
 use Rattle.sfc.proofs.give.UnseenLaws.{block-unseen, content-unseen, prefix-unseen}
 use Rattle.sfc.proofs.session.RightLaws.{accepted-right}
@@ -45,7 +45,7 @@ module _ (h : Head) (x : Session) (r : Right h x) where
 
   module _ (enough : h .n ≤ heldIn x) where
     holds : h .n ≤ holding (x .marks)
-    holds = omega (arith, held-holding (x .marks))
+    holds = omega (arith)
 
     module _ (d : List ℕ) (f : Fitting h x d) where
       known : (j : ℕ) → j < h .n → block (h .s) d j ≡ decode (h .n) (h .m) (h .s) (x .marks) (x .store) j
@@ -72,7 +72,7 @@ module _ (h : Head) (x : Session) (r : Right h x) where
 
   some-fits : heldIn x ≤ h .n → (d : List ℕ) × Fitting h x d
   some-fits v =
-      let s = theorems .some (h .n) (h .m) (h .s) (x .marks) (x .store) shape (omega (arith, held-holding (x .marks))) in
+      let s = theorems .some (h .n) (h .m) (h .s) (x .marks) (x .store) shape (omega (arith)) in
       (s .0, record { blocks = s .1; fits = s .2 })
 
   block-free : (j : ℕ) → Open h x j → Withholds h x j × Free h x j
@@ -80,7 +80,7 @@ module _ (h : Head) (x : Session) (r : Right h x) where
     where
       any-bytes : Free h x j
       any-bytes v l b =
-          let f = theorems .free (h .n) (h .m) (h .s) (x .marks) (x .store) shape (omega (arith, held-holding (x .marks), o .few)) j (o .is-data) (o .unheld) v (omega arith, b) in
+          let f = theorems .free (h .n) (h .m) (h .s) (x .marks) (x .store) shape (omega (arith, o .few)) j (o .is-data) (o .unheld) v (omega arith, b) in
           (f .0, record { blocks = f .1; fits = f .2 }, f .3)
 
   -- ---- the missing list

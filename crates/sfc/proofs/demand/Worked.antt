@@ -6,9 +6,10 @@ use native.Mathlib.Omega.{arith}
 use lib.Arith.{digits-div}
 use Rattle.gf16.proofs.Laws as gf16
 use Rattle.cauchy.proofs.Worked as cauchy
+use Rattle.cauchy.specs.Decode.{held, count}
 use Rattle.sfc.specs.format.Limits.{wantedBlocks, unlawful, aboveHouse}
 use Rattle.sfc.specs.session.Lent.{shapeWrong, marksWrong}
-use Rattle.sfc.specs.session.Marks.{heldCount, marksKnown}
+use Rattle.sfc.specs.session.Marks.{marksKnown}
 use Rattle.sfc.specs.note.Missing.{unheldFrom, missing}
 use Rattle.sfc.specs.note.Ranges.{putBefore, ranges, apartFrom, bounds}
 use Rattle.sfc.specs.note.Note.{be, bigBytes, pairsBytes, noteOf, writeNote, pairsFrom, malformed, readNote}
@@ -27,7 +28,7 @@ c8 s h = (
 )
 
 pub worked : Worked
-unfolding wantedBlocks unlawful aboveHouse shapeWrong heldCount marksKnown unheldFrom missing putBefore ranges apartFrom marksWrong be bigBytes pairsBytes noteOf writeNote pairsFrom malformed bounds readNote
+unfolding wantedBlocks unlawful aboveHouse shapeWrong held count marksKnown unheldFrom missing putBefore ranges apartFrom marksWrong be bigBytes pairsBytes noteOf writeNote pairsFrom malformed bounds readNote
 worked = record {
   c1 = gf16.worked .c1;
   c2 = gf16.worked .c2;

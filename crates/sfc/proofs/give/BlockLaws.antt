@@ -24,7 +24,7 @@ use Rattle.sfc.specs.declared.format.header.Head.{Head}
 use Rattle.sfc.specs.declared.answer.reason.Reason.the-variants.{Few, OutputShort, NoDataBlock, Lent as LentWrong}
 use Rattle.sfc.specs.declared.give.block.BlockGiven.{BlockGiven}
 use Rattle.sfc.specs.declared.give.block.BlockGiven.the-variants.{Unverified, Refused as NoBlock}
-use Rattle.sfc.proofs.session.HeldLaws.{held-holding, decode-held}
+use Rattle.sfc.proofs.session.HeldLaws.{decode-held}
 use Rattle.sfc.proofs.give.GatherLaws.{row-in, row-block}
 use Rattle.little.proofs.ListLaws.{cut-long, copied-front}
 use Rattle.sfc.proofs.give.RebuildLaws.{few-told, enough-told}
@@ -82,7 +82,7 @@ rank-rest marks j h =
     let e = length-missing 0 (held (take j marks)) in
     let l = length-held (take j marks) in
     let k = length-take-le j marks h in
-    (omega (arith, held-holding (take j marks), e, l, k), omega (arith, held-holding (take j marks), e, l, k))
+    (omega (arith, e, l, k), omega (arith, e, l, k))
 
 module _ (n m s : ℕ) (store marks scratch numbers : List ℕ) (able : Rebuildable n m s store marks scratch numbers) (j : ℕ) (h : j < n) where
   pub held-in : (j * s + s ≤ length store) × (j * s + s ≤ 4325376)

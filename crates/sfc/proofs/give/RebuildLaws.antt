@@ -21,7 +21,6 @@ use Rattle.sfc.specs.declared.format.header.Head.{Head}
 use Rattle.sfc.proofs.format.LimitLaws.{wanted-holds}
 use Rattle.sfc.proofs.session.MarkLaws.{RightShape}
 use Rattle.sfc.proofs.session.SessionLaws.{RightLent, right-lent}
-use Rattle.sfc.proofs.session.HeldLaws.{held-holding}
 
 -- ---- past 71
 
@@ -94,7 +93,7 @@ rebuilt-cases : (n m s : ℕ) (store marks scratch numbers : List ℕ) → Rebui
     ≡ cond (ltb (heldCount marks) n) (record { scratch = scratch; numbers = numbers; answer = Answer.TooFew })
     (record { scratch = decodedScratch n m s marks store scratch; numbers = replicate 1024 0; answer = Answer.Done })
 unfolding rebuildAllSpec
-rebuilt-cases n m s store marks scratch numbers r = rw (able-shape n m s store marks scratch numbers r, held-holding marks)
+rebuilt-cases n m s store marks scratch numbers r = rw (able-shape n m s store marks scratch numbers r)
 
 abbrev pub isDone : Answer → Bool
 isDone Answer.Done = true
@@ -123,7 +122,7 @@ other-told false x few done e d a = absurd (true≢false (sym (ap isDone (ap (λ
 pub restored : (n m s : ℕ) (store marks scratch numbers scratch′ : List ℕ) → Rebuildable n m s store marks scratch numbers → ltb (heldCount marks) n ≡ false
     → scratch′ ≡ decodedScratch n m s marks store scratch → length scratch′ ≡ length scratch → Restored n m s marks store scratch′
 restored n m s store marks scratch numbers scratch′ r few e l =
-    let h : n ≤ holding marks = omega (arith, held-holding marks, ltb-false (heldCount marks) n few) in
+    let h : n ≤ holding marks = omega (arith, ltb-false (heldCount marks) n few) in
     record {
       even = r .even;
       marks-long = r .marks-long;

@@ -30,7 +30,7 @@ use Rattle.sfc.specs.declared.answer.reason.Reason.{Reason}
 use Rattle.sfc.specs.declared.give.block.BlockGiven.the-variants.{Unverified, Refused}
 use Rattle.sfc.proofs.answer.CheckLaws.{Passed}
 use Rattle.sfc.proofs.session.SessionLaws.{right-lent}
-use Rattle.sfc.proofs.session.HeldLaws.{held-holding, decode-held}
+use Rattle.sfc.proofs.session.HeldLaws.{decode-held}
 use Rattle.sfc.proofs.give.GivenLaws.{lent-right}
 
 -- what comes after checks matters only where they all pass
@@ -53,7 +53,7 @@ module _ (h : Head) (x y : Session) (alike : SameHeld h x y) (l : Lent) where
         → decode (h .n) (h .m) (h .s) (x .marks) (y .store) j ≡ decode (h .n) (h .m) (h .s) (x .marks) (x .store) j
     same-decode v j q =
         let r = right-lent (h .size) (h .n) (h .m) (h .s) (x .store) (x .marks) (lent-right h (x .store) (x .marks) l right) in
-        theorems .blind (h .n) (h .m) (h .s) (x .marks) (y .store) (x .store) (r .shape .s-even) (r .marks-long) (omega (arith, held-holding (x .marks))) (alike .blocks) j q
+        theorems .blind (h .n) (h .m) (h .s) (x .marks) (y .store) (x .store) (r .shape .s-even) (r .marks-long) (omega (arith)) (alike .blocks) j q
 
     same-content : h .n ≤ heldCount (x .marks) → contentOf h (y .store) (x .marks) ≡ contentOf h (x .store) (x .marks)
     unfolding contentOf decoded

@@ -11,6 +11,7 @@ use lib.Seq.{length-take-le, drop-length}
 use Rattle.little.specs.Parts.{put}
 use Rattle.little.proofs.PartLaws.{drop-down}
 use Rattle.little.proofs.ListLaws.{drop-set}
+use Rattle.cauchy.specs.Decode.{held, count}
 use Rattle.sfc.specs.session.Marks.{isHeld, heldCount}
 use Rattle.sfc.specs.session.Lent.{marksWrong}
 use Rattle.sfc.specs.answer.Numbers.{Answered}
@@ -23,19 +24,7 @@ use Rattle.sfc.specs.declared.answer.reason.Reason.the-variants.{Lent, O
 
 -- ---- how many are held, and how many not
 
-pub held-start : (xs : List ℕ) → 0 ≡ heldCount (drop (length xs) xs)
-unfolding heldCount
-held-start xs = rw drop-length
-
 module _ (xs : List ℕ) (i : ℕ) (h : 0 < i) (k : i ≤ length xs) where
-  pub held-more : (n : ℕ) → getD xs (i - 1) 0 ≡ 1 → n ≡ heldCount (drop i xs) → n + 1 ≡ heldCount (drop (i - 1) xs)
-  unfolding heldCount
-  held-more n e f = rw (drop-down xs i h k, eq-eqb _ _ e) (omega arith)
-
-  pub held-same : (n : ℕ) → (getD xs (i - 1) 0 ≡ 1 → ⊥) → n ≡ heldCount (drop i xs) → n ≡ heldCount (drop (i - 1) xs)
-  unfolding heldCount
-  held-same n e f = rw (drop-down xs i h k, ne-eqb _ _ e) f
-
   -- one mark more at the front of those that do not say held
   pub unheld-more : (getD xs (i - 1) 0 ≡ 1 → ⊥) → unheldFrom (i - 1) (drop (i - 1) xs) ≡ (i - 1) ∷ unheldFrom i (drop i xs)
   unfolding unheldFrom
@@ -54,12 +43,12 @@ unfolding unheldFrom
 unheld-none i xs = rw drop-length
 
 pub unheld-count : (i : ℕ) (xs : List ℕ) → length (unheldFrom i xs) + heldCount xs ≡ length xs
-unfolding heldCount unheldFrom
+unfolding held count unheldFrom
 unheld-count i [] = refl
 unheld-count i (k ∷ ks) = go (isHeld k) (unheld-count (suc i) ks)
   where
     go : (b : Bool) → length (unheldFrom (suc i) ks) + heldCount ks ≡ length ks
-        → length (cond b (unheldFrom (suc i) ks) (i ∷ unheldFrom (suc i) ks)) + cond b (suc (heldCount ks)) (heldCount ks) ≡ suc (length ks)
+        → length (cond b (unheldFrom (suc i) ks) (i ∷ unheldFrom (suc i) ks)) + count (cond b 1 0 ∷ held ks) ≡ suc (length ks)
     go true h = omega arith
     go false h = omega arith
 

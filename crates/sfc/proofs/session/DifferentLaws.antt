@@ -9,22 +9,23 @@ use borrow.Author.Tests.{eq-eqb, ne-eqb}
 use lib.ListN.{length, getD, set, length-set}
 use lib.Seq.{getD-set-same, getD-set-other}
 use Rattle.little.specs.Runs.{any, among}
+use Rattle.cauchy.specs.Decode.{held, count}
 use Rattle.sfc.specs.session.Marks.{isHeld, heldCount}
 use Rattle.sfc.specs.demand.Demand2.{AllBelow, different}
 
 none-held : (marks : List ℕ) → ((j : ℕ) → j < length marks → isHeld (getD marks j 0) ≡ false) → heldCount marks ≡ 0
-unfolding heldCount
+unfolding held count
 none-held [] f = refl
 none-held (k ∷ marks) f = rw (f 0 (omega arith)) (none-held marks (λ j h. f (suc j) (omega arith)))
 
 one-less : (marks : List ℕ) (i : ℕ) → isHeld (getD marks i 0) ≡ true → heldCount marks ≡ suc (heldCount (set marks i 0))
-unfolding heldCount
+unfolding held count
 one-less [] i e = absurd (false≢true e)
 one-less (k ∷ marks) zero e = rw e
 one-less (k ∷ marks) (suc i) e = go (isHeld k) (one-less marks i e)
   where
     go : (b : Bool) → heldCount marks ≡ suc (heldCount (set marks i 0))
-        → cond b (suc (heldCount marks)) (heldCount marks) ≡ suc (cond b (suc (heldCount (set marks i 0))) (heldCount (set marks i 0)))
+        → count (cond b 1 0 ∷ held marks) ≡ suc (count (cond b 1 0 ∷ held (set marks i 0)))
     go true q = ap suc q
     go false q = q
 

@@ -24,16 +24,6 @@ use Rattle.sfc.proofs.format.LimitLaws.{wanted-holds}
 use Rattle.sfc.proofs.writing.LengthLaws.{length-joined}
 use Rattle.sfc.proofs.session.SessionLaws.{right-lent}
 
--- V is counted alike above and below
-pub held-holding : (marks : List ℕ) → heldCount marks ≡ holding marks
-unfolding heldCount held count
-held-holding [] = refl
-held-holding (k ∷ marks) = go (isHeld k) (held-holding marks)
-  where
-    go : (b : Bool) → heldCount marks ≡ holding marks → cond b (suc (heldCount marks)) (heldCount marks) ≡ count (cond b 1 0 ∷ held marks)
-    go true e = ap suc e
-    go false e = e
-
 -- what 71 lets through has the code's shape
 pub right-code : (size n m s : ℕ) (store marks : List ℕ) → lentWrong size n m s store marks ≡ false → Bytes store → Shape n m s marks store
 right-code size n m s store marks e b =

@@ -10,14 +10,14 @@ use lib.ListN.{length, drop}
 use Rattle.little.specs.Runs.{zeros, among}
 use Rattle.sfc.specs.answer.Numbers.{numberOf}
 use Rattle.sfc.specs.format.Header.{lengthField, readHeader, refusedHeader}
-use Rattle.sfc.specs.format.Chunk.{checkChunk}
+use Rattle.sfc.specs.format.Chunk.{checkChunk, measureChunk}
 use Rattle.sfc.specs.answer.Places.{place}
 use Rattle.sfc.specs.format.Lookup.{findField}
 use Rattle.sfc.specs.session.Tallies.{countedRefusal}
 use Rattle.sfc.specs.session.Session.{Session, verdictOf, after}
 use Rattle.sfc.specs.session.SessionTheorems.{OneOffer}
 use Rattle.sfc.specs.give.HandOut.{lentAfter, handOut}
-use Rattle.sfc.specs.session.Lent.{Lent, rebuildWrong}
+use Rattle.sfc.specs.session.Lent.{Lent, rebuildWrong, countMarks}
 use Rattle.sfc.specs.give.Block.{blockRequest}
 use Rattle.sfc.specs.give.Prefix.{prefixGiven}
 use Rattle.sfc.specs.note.Missing.{listMissing}
@@ -37,6 +37,8 @@ use Rattle.sfc.specs.declared.give.prefix.PrefixGiven.the-variants.{Unve
 use Rattle.sfc.specs.declared.give.block.BlockGiven.the-variants.{Unverified as BlockUnverified, Refused as NoBlock}
 use Rattle.sfc.specs.declared.note.missing.Listed.the-variants.{Count, Refused as NotListed}
 use Rattle.sfc.specs.declared.answer.written.Written.the-variants.{Bytes as Took, Refused as NotWritten}
+use Rattle.sfc.specs.declared.format.chunk.ChunkMeasured.the-variants.{Refused as NotMeasured}
+use Rattle.sfc.specs.declared.session.marks.MarksCounted.the-variants.{Refused as NotCounted}
 
 -- ---- the words of the demand
 
@@ -67,6 +69,9 @@ pub record Demand1 : Type 0 where
   -- A chunk by itself: 71 or 30 to 40.
   pub chunk-refused : (h : Head) (c : List ℕ) (r : Reason) → checkChunk h c ≡ NoChunk r
       → OneOf r (71 ∷ 30 ∷ 31 ∷ 32 ∷ 33 ∷ 34 ∷ 35 ∷ 36 ∷ 37 ∷ 38 ∷ 39 ∷ 40 ∷ [])
+  -- How long a chunk is: 71, 30, 31 or 32; and the count of marks: 71.
+  pub measure-refused : (h : Head) (b : List ℕ) (r : Reason) → measureChunk h b ≡ NotMeasured r → OneOf r (71 ∷ 30 ∷ 31 ∷ 32 ∷ [])
+  pub count-refused : (h : Head) (marks : List ℕ) (r : Reason) → countMarks h marks ≡ NotCounted r → OneOf r (71 ∷ [])
   -- The place of a field: the header's number, 10 to 23, and nothing else; what is found lies in the region of an accepted header,
   -- and the region, with a trailer after it, in the input.
   pub field-refused : (b : List ℕ) (tag : ℕ) (r : Reason) → findField b tag ≡ NotShown r

@@ -12,7 +12,7 @@ unfoldable pub standsAt : List ℕ → ℕ → List ℕ → Bool
 standsAt s at [] = true
 standsAt s at (y ∷ ys) = eqb (getD s at 0) y && standsAt s (suc at) ys
 
--- b, and zeros behind it up to `width` bytes
+-- b, and zeros after it up to `width` bytes
 abbrev pub padded : ℕ → List ℕ → List ℕ
 padded width b = b ++ zeros (width - length b)
 

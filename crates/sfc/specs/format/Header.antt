@@ -24,7 +24,7 @@ magic = 0x53 ∷ 0x46 ∷ 0x43 ∷ 0x00 ∷ []
 abbrev pub trailerMagic : List ℕ
 trailerMagic = 0x54 ∷ 0x52 ∷ 0x4C ∷ 0x52 ∷ zeros 4
 
--- H stands behind the preamble of eight bytes, and begins the header region, which is H + 4 bytes long
+-- H stands after the preamble of eight bytes, and begins the header region, which is H + 4 bytes long
 abbrev pub lengthField : List ℕ → ℕ
 lengthField b = le b 8 4
 

@@ -4,14 +4,14 @@ use Prim.Native.Nat.{ℕ, suc}
 use mathlib.Core.Bool.{Bool, true, cond, _&&_}
 use mathlib.Core.List.{List, [], _∷_}
 use lib.Dec.{ltb, eqb}
+use Rattle.cauchy.specs.Decode.{holding}
 
 abbrev pub isHeld : ℕ → Bool
 isHeld mark = eqb mark 1
 
--- V: how many indices are held, data and recovery alike
-unfoldable pub heldCount : List ℕ → ℕ
-heldCount [] = 0
-heldCount (k ∷ ks) = cond (isHeld k) (suc (heldCount ks)) (heldCount ks)
+-- V: how many indices are held, data and recovery alike, as the code below counts them
+abbrev pub heldCount : List ℕ → ℕ
+heldCount marks = holding marks
 
 -- how many are barred
 unfoldable pub barredCount : List ℕ → ℕ

@@ -42,7 +42,7 @@ pub record OneOffer : Type 0 where
   -- a repeat is a copy of what is held, byte for byte
   pub repeat-changes-nothing : (h : Head) (x : Session) (c : List ℕ) (i p : ℕ) → verdictOf h x c ≡ Repeat (number i) (place p)
       → (i ≡ indexOf c) × (p ≡ i * h .s) × (mark x i ≡ 1) × (blockOf h x i ≡ payloadOf c) × SameKept x (after h x c)
-  -- every refusal but 41 leaves store and marks as they stood
+  -- a refusal by another number than 41 changes neither store nor marks
   pub refused-changes-nothing : (h : Head) (x : Session) (c : List ℕ) (r : Reason) → verdictOf h x c ≡ Refused r → numberOf r ≢ 41
       → SameKept x (after h x c)
   -- 41 answers a copy that differs: the index is barred and its block zeros; nothing else changes

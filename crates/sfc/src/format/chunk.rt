@@ -133,7 +133,7 @@ pub(crate) fn check_all(h: Head, c: &[u8]) -> Checked
     }
 }
 
-// Bytes after a whole chunk are not read. The head of a refused header has N = 0, and is refused by 71.
+// What follows a whole chunk is not looked at. The head of a refused header has N = 0, and is refused by 71.
 pub fn check_chunk(h: Head, c: &[u8]) -> ChunkChecked
     ensures { λ r. ⌜ r ≡ checkChunk h (now (c .entry)) ⌝ }
 {

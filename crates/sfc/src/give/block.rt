@@ -5,7 +5,6 @@ use crate::answer::reason::Reason;
 use crate::format::header::Head;
 use crate::give::rebuild::rebuild_missing;
 use crate::session::lent::is_rebuild_wrong;
-use crate::session::marks::held_count;
 ghost use mathlib.Core.Path.{_≡_};
 ghost use Prim.Native.Nat.{_≤_, _<_};
 ghost use lib.ListN.{length};
@@ -47,7 +46,7 @@ fn give_block(
     if !rebuild_missing(n, m, s, store, marks, scratch, numbers) {
         return false;
     }
-    let row = i - held_count(&marks[..i]);
+    let row = i - cauchy::held_count(&marks[..i]);
     let at = row * width;
     let end = at + width;
     bytes::copy(&scratch[at..end], out);

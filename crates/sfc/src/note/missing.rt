@@ -2,7 +2,7 @@
 use crate::answer::reason::Reason;
 use crate::format::header::Head;
 use crate::session::lent::is_marks_wrong;
-use crate::session::marks::held_count;
+use crate::session::marks::HELD;
 ghost use mathlib.Core.Path.{_≡_};
 ghost use Prim.Native.Nat.{_<_, _≤_, _^_};
 ghost use lib.ListN.{length, take};
@@ -21,7 +21,11 @@ pub(crate) fn open_marks(n: u32, marks: &[u8]) -> usize
     ensures { λ r. ⌜ (r ≤ n) × (missing n (now (marks .entry)) ≡ unheldFrom 0 (take r (now (marks .entry)))) ⌝ }
 {
     let all = n as usize;
-    if all <= held_count(marks) { 0 } else { all }
+    if all <= cauchy::held_count(marks) {
+        0
+    } else {
+        all
+    }
 }
 
 // The indices of the marks that do not say held, from the last to the first, each before those listed already.
@@ -33,7 +37,7 @@ fn put_unheld(marks: &[u8], count: usize, out: &mut [u32])
     let mut i = marks.len();
     while 0 < i {
         i -= 1;
-        if marks[i] != 1 {
+        if marks[i] != HELD {
             k -= 1;
             out[k] = i as u32;
         }
@@ -48,7 +52,7 @@ pub fn list_missing(h: Head, marks: &[u8], out: &mut [u32]) -> Listed
         return Listed::Refused(Reason::Lent);
     }
     let among = open_marks(h.n, marks);
-    let count = among - held_count(&marks[..among]);
+    let count = among - cauchy::held_count(&marks[..among]);
     if out.len() < count {
         return Listed::Refused(Reason::OutputShort);
     }

@@ -9,6 +9,7 @@ use crate::note::layout::PAIRS_AT;
 use crate::note::missing::Listed;
 use crate::note::missing::open_marks;
 use crate::session::lent::is_marks_wrong;
+use crate::session::marks::HELD;
 ghost use mathlib.Core.Path.{_≡_};
 ghost use mathlib.Core.Bool.{true, false};
 ghost use mathlib.Core.List.{[], _∷_, _++_};
@@ -30,7 +31,7 @@ pub(crate) fn count_ranges(marks: &[u8]) -> usize
     let mut i = marks.len();
     while 0 < i {
         i -= 1;
-        let unheld = marks[i] != 1;
+        let unheld = marks[i] != HELD;
         if unheld & !joined {
             count += 1;
         }
@@ -64,7 +65,7 @@ pub(crate) fn put_range_bytes(marks: &[u8], count: usize, out: &mut [u8])
     let mut i = marks.len();
     while 0 < i {
         i -= 1;
-        if marks[i] == 1 {
+        if marks[i] == HELD {
             joined = false;
         } else {
             k = put_index_bytes(out, k, i as u32, joined);
@@ -98,7 +99,7 @@ fn put_range_bounds(marks: &[u8], count: usize, out: &mut [u32])
     let mut i = marks.len();
     while 0 < i {
         i -= 1;
-        if marks[i] == 1 {
+        if marks[i] == HELD {
             joined = false;
         } else {
             k = put_index_bounds(out, k, i as u32, joined);

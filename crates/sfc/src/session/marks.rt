@@ -3,7 +3,7 @@ use crate::answer::reason::Reason;
 use crate::format::header::Head;
 use crate::session::lent::is_marks_wrong;
 ghost use mathlib.Core.Path.{_≡_};
-ghost use Rattle.sfc.specs.session.Marks.{heldCount, barredCount, marksKnown};
+ghost use Rattle.sfc.specs.session.Marks.{barredCount, marksKnown};
 ghost use Rattle.sfc.specs.session.Lent.{countMarks};
 
 // An index of which nothing came, or whose block is held, or that met two payloads and is closed.
@@ -34,21 +34,6 @@ pub(crate) fn are_marks_known(marks: &[u8]) -> bool
     known
 }
 
-// V: how many marks say held; a barred index does not count.
-pub(crate) fn held_count(marks: &[u8]) -> usize
-    ensures { λ r. ⌜ r ≡ heldCount (now (marks .entry)) ⌝ }
-{
-    let mut held = 0;
-    let mut i = marks.len();
-    while 0 < i {
-        i -= 1;
-        if marks[i] == HELD {
-            held += 1;
-        }
-    }
-    held
-}
-
 fn barred_count(marks: &[u8]) -> usize
     ensures { λ r. ⌜ r ≡ barredCount (now (marks .entry)) ⌝ }
 {
@@ -70,5 +55,5 @@ pub fn count_marks(h: Head, marks: &[u8]) -> MarksCounted
     if is_marks_wrong(h.size, h.n, h.m, h.s, marks) {
         return MarksCounted::Refused(Reason::Lent);
     }
-    MarksCounted::Counts(held_count(marks), barred_count(marks))
+    MarksCounted::Counts(cauchy::held_count(marks), barred_count(marks))
 }

@@ -1,4 +1,4 @@
--- `sfc::format::header::check_lists` meets its contract; the fields are looked at behind a list that lies inside the region. Assumes nothing.
+-- `sfc::format::header::check_lists` meets its contract; the fields are looked at after a list that lies inside the region. Assumes nothing.
 use Prim.Native.Nat.{_+_, _*_}
 use mathlib.Core.Path.{sym, _∙_}
 use native.Mathlib.Omega.{arith}
