@@ -14,7 +14,7 @@ use Rattle.sfc.proofs.SessionLaws.{offered-session}
 use Rattle.sfc_walk.specs.Walk.{frontLength, chunksIn, chunksOf, lengthOfAll, Walk, walkOver}
 use Rattle.sfc_walk.proofs.StepLaws.{front-some, front-none, no-chunk, next-chunk}
 
--- the walk from here on, of which `at` bytes are behind us
+-- the walk from here on, with `at` bytes done
 abbrev onward : Head → List ℕ → ℕ → ℕ → Session → Walk
 onward h b most at x = record { session = afterAll h x (chunksIn most h (drop at b)); end = at + lengthOfAll (chunksIn most h (drop at b)) }
 
@@ -25,7 +25,9 @@ module _ (h : Head) (x₀ : Session) (b : List ℕ) where
 
   pub walking-start : Walking (length b) 0 x₀
   unfolding Walking walkOver
-  walking-start = (omega arith, refl)
+  walking-start =
+      let z : 0 + lengthOfAll (chunksOf h b) ≡ lengthOfAll (chunksOf h b) = omega arith in
+      (omega arith, ap (λ (k : ℕ). record { session = afterAll h x₀ (chunksOf h b); end = k }) z)
 
   pub walking-inside : (most at : ℕ) (x : Session) → Walking most at x → at ≤ length b
   unfolding Walking

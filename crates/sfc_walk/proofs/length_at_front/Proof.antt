@@ -9,14 +9,14 @@ use Rattle.sfc_walk.proofs.length_at_front.Tie as tie
 returns : tie.Need-returns
 unfolding frontLength
 returns c =
-    let a = c .before .before .before .args in
-    let m = measured (a .h) (a .b .now) _ (sym (c .before .before .measure-chunk .ensures) ∙ c .measured .given .1) in
+    let a = c .before .before .before .before .before .args in
+    let m = measured (a .h) (a .b .now) _ (sym (c .before .before .before .measure-chunk .ensures) ∙ c .before .measured .given .1) in
     rw (m .0) (m .1)
 
 returns-2 : tie.Need-returns-2
 unfolding frontLength
 returns-2 c =
-    let a = c .before .before .before .args in
+    let a = c .before .before .before .before .args in
     rw (unmeasured (a .h) (a .b .now) _ (sym (c .before .before .measure-chunk .ensures) ∙ c .enum-told .given .1))
 
 pub length-at-front-spec : {M : Type 1} → statement M
