@@ -5,51 +5,50 @@ use mathlib.Core.Bool.{Bool, true, cond, not, _&&_}
 use mathlib.Core.List.{List, [], _∷_}
 use lib.Dec.{eqb}
 use Rattle.sfc.specs.declared.answer.reason.Reason.{Reason}
-use Rattle.sfc.specs.declared.answer.reason.Reason.the-variants.{HeaderShort, HeaderMagic, Version, HeaderLength, Unlawful, HouseLimit, ErasurePairing, ErasureUnknown, CompressionUnknown, Flags, Priority, Extension, TrailerShape, TrailerHash, ChunkShort, ChunkMagic, PayloadLong, ChunkHash, EndMarker, OtherFile, IndexRange, TypeIndex, Reserved, Identifiers, PayloadLength, Conflict, Barred, TallyFull, Few, ContentHash, OutputShort, NoDataBlock, WriterInput, WriterOutput, Note, Lent}
 use Rattle.sfc.specs.declared.answer.reason.Checked.{Checked}
 use Rattle.sfc.specs.declared.answer.reason.Checked.the-variants.{Good, Refused}
 
 -- a row of the table: the reason's number, and the reason of the row before it; the first row has none, and names itself
 abbrev pub row : Reason → ℕ × Reason
-row HeaderShort = (10, HeaderShort)
-row HeaderMagic = (11, HeaderShort)
-row Version = (12, HeaderMagic)
-row HeaderLength = (13, Version)
-row Unlawful = (14, HeaderLength)
-row HouseLimit = (15, Unlawful)
-row ErasurePairing = (16, HouseLimit)
-row ErasureUnknown = (17, ErasurePairing)
-row CompressionUnknown = (18, ErasureUnknown)
-row Flags = (19, CompressionUnknown)
-row Priority = (20, Flags)
-row Extension = (21, Priority)
-row TrailerShape = (22, Extension)
-row TrailerHash = (23, TrailerShape)
-row ChunkShort = (30, TrailerHash)
-row ChunkMagic = (31, ChunkShort)
-row PayloadLong = (32, ChunkMagic)
-row ChunkHash = (33, PayloadLong)
-row EndMarker = (34, ChunkHash)
-row OtherFile = (35, EndMarker)
-row IndexRange = (36, OtherFile)
-row TypeIndex = (37, IndexRange)
-row Reserved = (38, TypeIndex)
-row Identifiers = (39, Reserved)
-row PayloadLength = (40, Identifiers)
-row Conflict = (41, PayloadLength)
-row Barred = (42, Conflict)
-row TallyFull = (43, Barred)
-row Few = (50, TallyFull)
-row ContentHash = (51, Few)
-row OutputShort = (52, ContentHash)
-row NoDataBlock = (53, OutputShort)
-row WriterInput = (60, NoDataBlock)
-row WriterOutput = (61, WriterInput)
-row Note = (70, WriterOutput)
-row Lent = (71, Note)
+row Reason.HeaderShort = (10, Reason.HeaderShort)
+row Reason.HeaderMagic = (11, Reason.HeaderShort)
+row Reason.Version = (12, Reason.HeaderMagic)
+row Reason.HeaderLength = (13, Reason.Version)
+row Reason.Unlawful = (14, Reason.HeaderLength)
+row Reason.HouseLimit = (15, Reason.Unlawful)
+row Reason.ErasurePairing = (16, Reason.HouseLimit)
+row Reason.ErasureUnknown = (17, Reason.ErasurePairing)
+row Reason.CompressionUnknown = (18, Reason.ErasureUnknown)
+row Reason.Flags = (19, Reason.CompressionUnknown)
+row Reason.Priority = (20, Reason.Flags)
+row Reason.Extension = (21, Reason.Priority)
+row Reason.TrailerShape = (22, Reason.Extension)
+row Reason.TrailerHash = (23, Reason.TrailerShape)
+row Reason.ChunkShort = (30, Reason.TrailerHash)
+row Reason.ChunkMagic = (31, Reason.ChunkShort)
+row Reason.PayloadLong = (32, Reason.ChunkMagic)
+row Reason.ChunkHash = (33, Reason.PayloadLong)
+row Reason.EndMarker = (34, Reason.ChunkHash)
+row Reason.OtherFile = (35, Reason.EndMarker)
+row Reason.IndexRange = (36, Reason.OtherFile)
+row Reason.TypeIndex = (37, Reason.IndexRange)
+row Reason.Reserved = (38, Reason.TypeIndex)
+row Reason.Identifiers = (39, Reason.Reserved)
+row Reason.PayloadLength = (40, Reason.Identifiers)
+row Reason.Conflict = (41, Reason.PayloadLength)
+row Reason.Barred = (42, Reason.Conflict)
+row Reason.TallyFull = (43, Reason.Barred)
+row Reason.Few = (50, Reason.TallyFull)
+row Reason.ContentHash = (51, Reason.Few)
+row Reason.OutputShort = (52, Reason.ContentHash)
+row Reason.NoDataBlock = (53, Reason.OutputShort)
+row Reason.WriterInput = (60, Reason.NoDataBlock)
+row Reason.WriterOutput = (61, Reason.WriterInput)
+row Reason.Note = (70, Reason.WriterOutput)
+row Reason.Lent = (71, Reason.Note)
 
 abbrev pub lastRow : Reason
-lastRow = Lent
+lastRow = Reason.Lent
 
 abbrev pub numberOf : Reason → ℕ
 numberOf r = row r .0
