@@ -96,7 +96,7 @@ bytes zero v i = lit< tt
 bytes (suc width) v zero = omega arith
 bytes (suc width) v (suc i) = bytes width (v / 256) i
 
--- one place on, behind a byte at the front
+-- one place on, after a byte at the front
 le-cons : (width x : ℕ) (s : List ℕ) (at : ℕ) → le (x ∷ s) (suc at) width ≡ le s at width
 le-cons width x s at = le-same width (x ∷ s) s (suc at) at (λ k u. let e : suc at + k ≡ suc (at + k) = omega arith in rw e)
 

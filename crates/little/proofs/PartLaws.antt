@@ -84,8 +84,8 @@ module _ (xs : List ℕ) (at : ℕ) (ys : List ℕ) (inside : at + length ys ≤
   pub put-inside : (k : ℕ) → k < length ys → getD (put xs at ys) (at + k) 0 ≡ getD ys k 0
   put-inside k h = past-head k ∙ List·getD-append ys (drop (length ys) (drop at xs)) 0 k h
 
-  pub put-behind : (k : ℕ) → at + length ys ≤ k → getD (put xs at ys) k 0 ≡ getD xs k 0
-  put-behind k h =
+  pub put-after : (k : ℕ) → at + length ys ≤ k → getD (put xs at ys) k 0 ≡ getD xs k 0
+  put-after k h =
       let e : k ≡ at + (length ys + (k - (at + length ys))) = omega arith in
       let f : at + (length ys + (k - (at + length ys))) ≡ k = omega arith in
       ap (λ (x : ℕ). getD (put xs at ys) x 0) e
@@ -96,7 +96,7 @@ module _ (xs : List ℕ) (at : ℕ) (ys : List ℕ) (inside : at + length ys ≤
       ∙ ap (λ (x : ℕ). getD xs x 0) f
 
   pub put-outside : (k : ℕ) → (k < at) ⊎ (at + length ys ≤ k) → getD (put xs at ys) k 0 ≡ getD xs k 0
-  put-outside k o = ⊎-elim (put-before k) (put-behind k) o
+  put-outside k o = ⊎-elim (put-before k) (put-after k) o
 
   -- the part that was put is there
   pub part-put : part (put xs at ys) at (length ys) ≡ ys
@@ -118,7 +118,7 @@ module _ (xs : List ℕ) (at : ℕ) (ys : List ℕ) (inside : at + length ys ≤
       ∙ put-outside (at′ + k) (⊎-elim (λ q. inr (omega arith)) (λ q. inl (omega arith)) apart)
       ∙ sym (getD-part xs at′ n k u))
 
--- two lists with the same element at each place before, in and behind a part are the same
+-- two lists with the same element at each place before, in and after a part are the same
 pub same-around : (xs ys : List ℕ) (at n : ℕ) → length xs ≡ length ys
     → ((k : ℕ) → (k < at) ⊎ (at + n ≤ k) → getD xs k 0 ≡ getD ys k 0) → ((k : ℕ) → k < n → getD xs (at + k) 0 ≡ getD ys (at + k) 0) → xs ≡ ys
 same-around xs ys at n l out here =

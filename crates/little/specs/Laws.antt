@@ -11,7 +11,7 @@ use Rattle.little.specs.Fields.{Bytes, le, bytesOf, putLe}
 pub record LittleLaws (width : ℕ) : Type 0 where
   -- a number read fits its width
   pub bound : (s : List ℕ) → Bytes s → (at : ℕ) → le s at width < 256 ^ width
-  -- a field that begins behind the end reads as 0
+  -- a field that begins past the end reads as 0
   pub past-end : (s : List ℕ) (at : ℕ) → length s ≤ at → le s at width ≡ 0
   -- the bytes of a number are as many as the width says, and bytes
   pub long : (v : ℕ) → length (bytesOf width v) ≡ width

@@ -12,7 +12,7 @@ part xs at n = take n (drop at xs)
 abbrev pub put : List ℕ → ℕ → List ℕ → List ℕ
 put xs at ys = take at xs ++ (ys ++ drop (length ys) (drop at xs))
 
--- block i of a store whose blocks have `size` elements each and lie one behind the other
+-- block i of a store whose blocks have `size` elements each and lie one after the other
 abbrev pub block : ℕ → List ℕ → ℕ → List ℕ
 block size store i = part store (i * size) size
 

@@ -13,7 +13,7 @@ use lib.Dec.{ltb, leb}
 use borrow.Author.Tests.{lt-ltb, le-ltb, le-leb, lt-leb}
 use Rattle.little.specs.Fields.{bytesOf}
 use Rattle.little.specs.Parts.{put}
-use Rattle.little.proofs.PartLaws.{lent, length-part, getD-part, length-put, put-before, put-inside, put-behind, block-inside}
+use Rattle.little.proofs.PartLaws.{lent, length-part, getD-part, length-put, put-before, put-inside, put-after, block-inside}
 use Rattle.cauchy.specs.Code.{joined, wordBytes}
 use Rattle.cauchy.proofs.blocks.BlockLaws.{length-wordBytes}
 use Rattle.cauchy.specs.Calls.{byteOf, inRange, filled}
@@ -140,7 +140,7 @@ module _ (s first count : ℕ) (room : first + count ≤ s / 2) where
           ∙ ap (λ (x : ℕ). byteOf ((q - (t * s + 2 * first)) % 2) (g′ t (first + x))) (omega arith)
           ∙ sym (ap (byteAt e′ g′ base) r ∙ byte-in e′ g′ base t (q - (t * s + 2 * first)) ht k)
       go q m h ly (no a) (no d) =
-          put-behind F (t * s + 2 * first) ys h q (omega arith) ∙ at-F q m ∙ byte-out e e′ g g′ base t q hs he hg (λ x y. omega arith)
+          put-after F (t * s + 2 * first) ys h q (omega arith) ∙ at-F q m ∙ byte-out e e′ g g′ base t q hs he hg (λ x y. omega arith)
 
 -- ---- scratch depends on the words asked for alone
 

@@ -1,4 +1,4 @@
--- `little::byte_at` meets its contract: behind the end stands the default. Assumes nothing.
+-- `little::byte_at` meets its contract: past the end stands the default. Assumes nothing.
 use mathlib.Core.Path.{sym}
 use lib.ListN.{List·getD-eq-default}
 use borrow.Author.Needs.{needs}

@@ -87,12 +87,8 @@ fn offer_whole(
     let width = h.s as usize;
     let at = i * width;
     let end = at + width;
-    let payload_end = CHUNK_HEADER + width;
-    let step = offer_block(
-        &mut store[at..end],
-        marks[i],
-        &chunk[CHUNK_HEADER..payload_end],
-    );
+    let stop = CHUNK_HEADER + width;
+    let step = offer_block(&mut store[at..end], marks[i], &chunk[CHUNK_HEADER..stop]);
     let place = at as u32;
     match step {
         Step::Laid => {
