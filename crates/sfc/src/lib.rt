@@ -6,44 +6,54 @@ mod note;
 mod session;
 mod writing;
 
-// Answers: a reason has its number; block and byte places are types of their own.
+// A refusal's reason, and its number.
+pub use answer::reason::Reason;
+pub use answer::reason::number_of;
+// What a list of checks came to; how many bytes were written; which block, and which byte.
 pub use answer::places::BlockNumber;
 pub use answer::places::BytePlace;
 pub use answer::reason::Checked;
-pub use answer::reason::Reason;
-pub use answer::reason::number_of;
 pub use answer::written::Written;
-// The bytes of a container: a header, the place of one of its extension fields, a chunk by itself and how long one is.
-pub use format::chunk::ChunkChecked;
-pub use format::chunk::ChunkMeasured;
-pub use format::chunk::check_chunk;
-pub use format::chunk::measure_chunk;
+// A header's fields, from preamble, region and trailer.
 pub use format::header::Head;
 pub use format::header::HeaderRead;
 pub use format::header::read_header;
+// Where the value of one of its extension fields stands.
 pub use format::lookup::FieldFound;
 pub use format::lookup::find_field;
-// What is given: the blocks before the first gap, the whole content, one block.
-pub use give::block::BlockGiven;
-pub use give::block::block;
-pub use give::hand_out::HandedOut;
-pub use give::hand_out::hand_out;
-pub use give::prefix::PrefixGiven;
-pub use give::prefix::prefix;
-// What is missing, index by index or as ranges, and the note that asks for it.
-pub use note::missing::Listed;
-pub use note::missing::list_missing;
-pub use note::ranges::list_ranges;
-pub use note::resend::NoteRead;
-pub use note::resend::read_note;
-pub use note::resend::write_note;
-// A session: a chunk is offered and counted, and what is held and barred.
-pub use session::marks::MarksCounted;
-pub use session::marks::count_marks;
+// Whether bytes are a whole chunk of a file, and of which index.
+pub use format::chunk::ChunkChecked;
+pub use format::chunk::check_chunk;
+// How long the chunk at the front of some bytes is.
+pub use format::chunk::ChunkMeasured;
+pub use format::chunk::measure_chunk;
+// A chunk offered to a session: fresh, a repeat or refused, and counted.
 pub use session::offer::OfferAnswer;
 pub use session::offer::Verdict;
 pub use session::offer::offer;
 pub use session::tallies::Tallies;
-// A whole file from a content and what the caller says of it.
+// How many indices of a session are held, and how many barred.
+pub use session::marks::MarksCounted;
+pub use session::marks::count_marks;
+// The bytes before the first gap, unverified.
+pub use give::prefix::PrefixGiven;
+pub use give::prefix::prefix;
+// One data block, held or rebuilt, unverified.
+pub use give::block::BlockGiven;
+pub use give::block::block;
+// The whole content, where it has the header's hash.
+pub use give::hand_out::HandedOut;
+pub use give::hand_out::hand_out;
+// The unknown data blocks, index by index.
+pub use note::missing::Listed;
+pub use note::missing::list_missing;
+// The same as first and last of each range.
+pub use note::ranges::list_ranges;
+// The note that asks for them.
+pub use note::resend::write_note;
+// What a note asks for.
+pub use note::resend::NoteRead;
+pub use note::resend::read_note;
+// A whole file, from a content and what the caller says of it.
 pub use writing::writer::FileFacts;
 pub use writing::writer::write;

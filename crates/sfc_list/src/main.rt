@@ -7,13 +7,10 @@ use sfc_listing::listing;
 ghost use Rattle.io.specs.Counts.{Counts};
 
 // A byte more than the longest file that is listed, so that a longer one is known by its length.
-fn file_room() -> [u8; 65537] {
-    [0u8; 65537]
-}
+const FILE_ROOM: usize = sfc_listing::FILE_MOST + 1;
 
-// For the store, the scratch, the content or the text.
-fn bytes_room() -> [u8; 32768] {
-    [0u8; 32768]
+fn file_room() -> [u8; FILE_ROOM] {
+    [0u8; FILE_ROOM]
 }
 
 // How many bytes were read, and whether a read failed before the input's end.
@@ -60,13 +57,13 @@ fn print(written: Written, out: &[u8]) {
 }
 
 fn list(file: &[u8]) {
-    let mut store = bytes_room();
-    let mut marks = [0u8; 1056];
-    let mut scratch = bytes_room();
-    let mut numbers = [0u16; 1024];
-    let mut content = bytes_room();
-    let mut bounds = [0u32; 1024];
-    let mut out = bytes_room();
+    let mut store = [0u8; sfc_listing::STORE];
+    let mut marks = [0u8; sfc_listing::MARKS];
+    let mut scratch = [0u8; sfc_listing::SCRATCH];
+    let mut numbers = [0u16; sfc_listing::NUMBERS];
+    let mut content = [0u8; sfc_listing::CONTENT];
+    let mut bounds = [0u32; sfc_listing::BOUNDS];
+    let mut out = [0u8; sfc_listing::TEXT];
     let written = listing(
         file,
         &mut store,

@@ -1,14 +1,14 @@
 // The listing of a file: what it holds, as the lines of text that a program prints.
 use crate::lines::put_refused;
 use crate::room::ABOVE_LIMITS;
+use crate::room::AFTER_LENGTH;
 use crate::room::BLOCKS_MOST;
 use crate::room::BOUNDS;
 use crate::room::CONTENT;
 use crate::room::FILE_MOST;
+use crate::room::LENGTH_AT;
 use crate::room::MARKS;
 use crate::room::NUMBERS;
-use crate::room::REGION_AT;
-use crate::room::REGION_LENGTH_AT;
 use crate::room::SCRATCH;
 use crate::room::STORE;
 use crate::room::TEXT;
@@ -88,7 +88,7 @@ fn list_accepted(
         return put_refused(ABOVE_LIMITS, out);
     }
     let rebuilt = h.m as usize * h.s as usize;
-    let from = little::read32(file, REGION_LENGTH_AT) as usize + REGION_AT;
+    let from = little::read32(file, LENGTH_AT) as usize + AFTER_LENGTH;
     let end = file.len() - TRAILER;
     list_session(
         h,
