@@ -8,6 +8,7 @@ mod histories;
 mod listings;
 mod notes;
 mod sessions;
+mod walks;
 mod writes;
 
 use crate::probe::*;
@@ -39,6 +40,9 @@ fn frames_out_of_range(script: &mut Script) {
         script.frame(opcode, 1, most, most);
     }
     for opcode in [CHECK_CHUNK, CHUNK_BYTES, CHUNK_BYTES_SEALED, CHUNK_LENGTHS, SET_TALLY, OFFER, LEND, 2, 99, 255] {
+        script.frame(opcode, 1, most, most);
+    }
+    for opcode in [MEASURE_CHUNK, OFFER_CHUNKS, COUNT_MARKS] {
         script.frame(opcode, 1, most, most);
     }
     for opcode in [NOTE_VALUES, NOTE_LENGTHS, SET_HEAD] {
@@ -93,6 +97,10 @@ const SESSIONS: &[Part] = &[
     sessions::any_order,
     histories::every_order,
     histories::long_histories,
+    walks::whole_files,
+    walks::damaged_chunks,
+    walks::other_chunks,
+    walks::wrong_sessions,
 ];
 
 const NOTES: &[Part] = &[

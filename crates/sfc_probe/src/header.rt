@@ -28,7 +28,7 @@ fn answer(file: &[u8]) -> u8 {
 }
 
 fn print_name(name: [u8; 255], length: u8) {
-    let end = edit::within(length as usize, &name);
+    let end = little::within8(length as usize, &name);
     print::bytes(b" name=", &name[..end]);
 }
 
@@ -95,7 +95,7 @@ pub(crate) fn with_number(frame: Frame, head: Head) -> Head {
     next
 }
 
-// Where the value of a field begins, and its length.
+// Where the value of a field begins, and its length; a header that is refused gives its number.
 pub(crate) fn find(file: &[u8], tag: u16) {
     let found = find_field(file, tag);
     match found {
@@ -104,6 +104,7 @@ pub(crate) fn find(file: &[u8], tag: u16) {
             print::field(b" ", length as u64);
         }
         FieldFound::Nothing => print::text(b"nothing"),
+        FieldFound::Refused(reason) => print::decimal(number_of(reason) as u64),
     }
     print::line_end();
 }
@@ -122,7 +123,7 @@ fn changed_answer(file: &mut [u8], at: usize, mask: u8, sealed: bool) -> u8 {
 fn sweep_bytes(file: &mut [u8], from: usize, to: usize, mask: u8, sealed: bool) {
     let mut before = io::large_buffer();
     edit::copy(file, &mut before);
-    let end = edit::least(to, file.len());
+    let end = little::least(to, file.len());
     let mut run = Run::new();
     let mut at = from;
     while at < end {
@@ -136,12 +137,12 @@ fn sweep_bytes(file: &mut [u8], from: usize, to: usize, mask: u8, sealed: bool) 
 }
 
 fn prefix_answer(file: &[u8], length: usize) -> u8 {
-    let end = edit::within(length, file);
+    let end = little::within8(length, file);
     answer(&file[..end])
 }
 
 fn sweep_lengths(file: &[u8], from: usize, to: usize) {
-    let end = edit::least(to, file.len());
+    let end = little::least(to, file.len());
     let mut run = Run::new();
     let mut length = from;
     while length < end {
