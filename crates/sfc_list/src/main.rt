@@ -1,8 +1,9 @@
-// Reads a file from standard input and prints its listing.
+// The program that lists: bytes come in by standard input, and lines of text go out.
+use libc::STDERR_FILENO;
 use libc::STDIN_FILENO;
 use libc::STDOUT_FILENO;
 use sfc::Written;
-use sfc_listing::listing::listing;
+use sfc_listing::listing;
 ghost use Rattle.io.specs.Counts.{Counts};
 
 // A byte more than the longest file that is listed, so that a longer one is known by its length.
@@ -15,19 +16,44 @@ fn bytes_room() -> [u8; 32768] {
     [0u8; 32768]
 }
 
-// How many of the first n bytes a slice has.
-fn within(n: usize, s: &[u8]) -> usize
-    ensures { λ r. ⌜ Counts r (now (s .entry)) ⌝ }
+// How many bytes were read, and whether a read failed before the input's end.
+struct Input {
+    length: usize,
+    failed: bool,
+}
+
+// Reads to the input's end, or until the room is full. A failed read counts no byte, as the end does, so that its answer is
+// looked at again.
+fn read_input(room: &mut [u8]) -> Input
+    ensures { λ r. ⌜ Counts (r .length) (now (room .exit)) ⌝ }
 {
-    if n < s.len() { n } else { s.len() }
+    let mut length = 0;
+    while length < room.len() {
+        let got = libc::read(STDIN_FILENO, &mut room[length..]);
+        let count = io::count(got, &room[length..]);
+        if count == 0 {
+            let failed = got < 0;
+            return Input { length, failed };
+        }
+        length += count;
+    }
+    Input {
+        length,
+        failed: false,
+    }
 }
 
 // The text at the output's front. Memory as long as it is lent here is never refused.
 fn print(written: Written, out: &[u8]) {
     match written {
         Written::Bytes(length) => {
-            let end = within(length, out);
-            io::write_all(STDOUT_FILENO, &out[..end]);
+            let end = little::within8(length, out);
+            if !io::write_all(STDOUT_FILENO, &out[..end]) {
+                io::write_all(
+                    STDERR_FILENO,
+                    b"sfc_list: the listing could not be written\n",
+                );
+            }
         }
         Written::Refused(_) => {}
     }
@@ -54,8 +80,13 @@ fn list(file: &[u8]) {
     print(written, &out);
 }
 
+// What was not read to its end is not judged.
 fn main() {
     let mut room = file_room();
-    let length = io::read_full(STDIN_FILENO, &mut room);
-    list(&room[..length]);
+    let input = read_input(&mut room);
+    if input.failed {
+        io::write_all(STDERR_FILENO, b"sfc_list: the input could not be read\n");
+        return;
+    }
+    list(&room[..input.length]);
 }

@@ -21,12 +21,12 @@ use Rattle.sfc.specs.declared.answer.reason.Checked.the-variants.{Good, Refused
 use Rattle.sfc.specs.declared.answer.written.Written.{Written}
 use Rattle.sfc.specs.declared.answer.written.Written.the-variants.{Bytes, Refused}
 use Rattle.sfc_listing.specs.Text.{text}
-use Rattle.sfc_listing.specs.Listing.{sessionOf, lastWord, sessionText, programChecks, refusedText, listingOf, Desk, cleared, listingChecks, listed}
+use Rattle.sfc_listing.specs.Listing.{sessionIn, lastWord, sessionText, programChecks, refusedText, listingOf, Desk, cleared, listingChecks, listed}
 use Rattle.sfc_listing.specs.Demand1.{ListingDemand}
 use Rattle.sfc.proofs.CheckLaws.{passed, good-all, refused-all, tells}
 use Rattle.sfc.proofs.SessionLaws.{number-in}
 use Rattle.sfc.proofs.RefusalLaws.{leaves, ends}
-use Rattle.sfc.proofs.Demand1.{writtenSeen}
+use Rattle.sfc.proofs.demand.Demand1.{writtenSeen}
 use Rattle.sfc_listing.proofs.FitLaws.{listing-fits}
 
 module _ (f : List ℕ) (d : Desk) (out : List ℕ) where
@@ -56,7 +56,7 @@ file-refused f r e =
     let h : Head = headOf (regionOf f) in
     let n = number-in (λ (k : ℕ). (10 ≤ k) × (k ≤ 23)) (programChecks h f) r
     ((lit≤ tt, lit≤ tt), ((lit≤ tt, lit≤ tt), ((lit≤ tt, lit≤ tt), ((lit≤ tt, lit≤ tt), ((lit≤ tt, lit≤ tt), ((lit≤ tt, lit≤ tt), ((lit≤ tt, lit≤ tt), ((lit≤ tt, lit≤ tt), ((lit≤ tt, lit≤ tt), ((lit≤ tt, lit≤ tt), ((lit≤ tt, lit≤ tt), ((lit≤ tt, lit≤ tt), ((lit≤ tt, lit≤ tt), ((lit≤ tt, lit≤ tt), ((lit≤ tt, lit≤ tt), ((lit≤ tt, lit≤ tt), ((lit≤ tt, lit≤ tt), tt))))))))))))))))) e in
-    (refused-all (λ (q : Reason). refusedText (numberOf q)) (programChecks h f) (sessionText h (sessionOf h f)) r e, n .0, n .1)
+    (refused-all (λ (q : Reason). refusedText (numberOf q)) (programChecks h f) (sessionText h (sessionIn h f)) r e, n .0, n .1)
 
 -- the words differ, so the last one tells how the checks ended
 decided-good : (cs : List Check) → checked cs (λ (r : Reason). cond (eqb (numberOf r) 51) (text "hash differs") (text "incomplete")) (text "complete") ≡ text "complete" → verdict cs ≡ Good

@@ -1,7 +1,7 @@
 -- The listing of a file: refused, or the session of its header; and the call that makes it. Assumes nothing.
 use Prim.Native.Nat.{ℕ, _+_, _-_, _*_, _<_, _≤_}
 use mathlib.Core.Path.{_≡_, refl, sym, ap, _∙_, subst}
-use mathlib.Core.Bool.{Bool, true, false, not, _||_}
+use mathlib.Core.Bool.{true, false, not}
 use mathlib.Core.List.{List, [], _∷_}
 use native.Mathlib.Omega.{arith}
 use native.Mathlib.Nat.{mul-le-mul}
@@ -14,8 +14,11 @@ use Rattle.little.proofs.TestLaws.{or-false}
 use Rattle.little.specs.Runs.{zeros}
 use Rattle.sfc.specs.answer.Numbers.{verdict, numberOf}
 use Rattle.sfc.specs.format.Header.{lengthField, regionOf, headOf, headerChecks, refusedHeader, acceptedHeader, readHeader}
-use Rattle.sfc_listing.specs.Listing.{between, sessionOf, sessionText, refusedText, listingOf, Desk, deskWrong, cleared, Listed, listed}
-use Rattle.sfc_listing.specs.Steps.{Printed, walked, acceptedText, Ready}
+use Rattle.sfc.specs.session.Session.{blank}
+use Rattle.sfc_walk.specs.Walk.{walkOver}
+use Rattle.sfc_listing.specs.Listing.{between, sessionIn, sessionText, refusedText, listingOf, Desk, deskOf, lengthsWrong, deskWrong, cleared, listedOf, listed}
+use Rattle.sfc_listing.specs.Lines.{Printed}
+use Rattle.sfc_listing.specs.Steps.{acceptedText, Ready}
 use Rattle.sfc.specs.declared.format.header.Head.{Head}
 use Rattle.sfc.specs.declared.format.header.HeaderRead.{HeaderRead}
 use Rattle.sfc.specs.declared.answer.reason.Reason.{Reason}
@@ -55,13 +58,13 @@ module _ (f : List ℕ) where
     unfolding listingOf
     listing-refused r g =
         rw (le-ltb 65536 (length f) short)
-        (sym (refused-then (λ (q : Reason). refusedText (numberOf q)) (headerChecks f) ((ltb 32768 ((head .n + head .m) * head .s), 15) ∷ []) (sessionText head (sessionOf head f)) r (told x (Refused r) e g)))
+        (sym (refused-then (λ (q : Reason). refusedText (numberOf q)) (headerChecks f) ((ltb 32768 ((head .n + head .m) * head .s), 15) ∷ []) (sessionText head (sessionIn head f)) r (told x (Refused r) e g)))
 
     accepted-text : x .verdict ≡ Good → acceptedText head f ≡ listingOf f
     unfolding listingOf acceptedText
     accepted-text g =
         rw (le-ltb 65536 (length f) short)
-        (sym (good-then (λ (q : Reason). refusedText (numberOf q)) (headerChecks f) ((ltb 32768 ((head .n + head .m) * head .s), 15) ∷ []) (sessionText head (sessionOf head f)) (told x Good e g)))
+        (sym (good-then (λ (q : Reason). refusedText (numberOf q)) (headerChecks f) ((ltb 32768 ((head .n + head .m) * head .s), 15) ∷ []) (sessionText head (sessionIn head f)) (told x Good e g)))
 
     pub listing-accepted : x .verdict ≡ Good → (readHeader f ≡ acceptedHeader (x .head)) × (acceptedText (x .head) f ≡ listingOf f)
     listing-accepted g =
@@ -80,7 +83,7 @@ record Long (d : Desk) : Type 0 where
   pub bounds : length (d .bounds) ≡ 1024
 
 long : (d : Desk) → deskWrong d ≡ false → Long d
-unfolding deskWrong
+unfolding lengthsWrong
 long d w =
     let is : (k n : ℕ) → not (eqb k n) ≡ false → k ≡ n = λ k n z. eqb-true k n (not-false (eqb k n) z) in
     let f = or-false _ (not (eqb (length (d .bounds)) 1024)) w in
@@ -111,8 +114,8 @@ module _ (h : Head) (f : List ℕ) (e : readHeader f ≡ acceptedHeader h) where
   )
 
   -- region and trailer lie apart
-  pub trailer-behind : lengthField f + 76 ≤ length f
-  trailer-behind = ltb-false (length f) (lengthField f + 76) (passed (headerChecks f) (told f (acceptedHeader h) Good (sym e) refl) .1 .1 .1 .1 .0)
+  pub trailer-after : lengthField f + 76 ≤ length f
+  trailer-after = ltb-false (length f) (lengthField f + 76) (passed (headerChecks f) (told f (acceptedHeader h) Good (sym e) refl) .1 .1 .1 .1 .0)
 
   pub limit-text : 32768 < (h .n + h .m) * h .s → refusedText 15 ≡ acceptedText h f
   unfolding acceptedText
@@ -120,8 +123,8 @@ module _ (h : Head) (f : List ℕ) (e : readHeader f ≡ acceptedHeader h) where
 
   module _ (few : (h .n + h .m) * h .s ≤ 32768) where
     pub session-text : (field : ℕ) → field ≡ lengthField f
-        → sessionText h (walked h (zeros ((h .n + h .m) * h .s)) (zeros (h .n + h .m)) (part f (field + 12) (length f - 64 - (field + 12)))) ≡ acceptedText h f
-    unfolding acceptedText sessionOf walked between
+        → sessionText h (walkOver h (blank h) (part f (field + 12) (length f - 64 - (field + 12))) .session) ≡ acceptedText h f
+    unfolding acceptedText sessionIn between
     session-text field ef = rw (le-ltb 32768 ((h .n + h .m) * h .s) few, ef)
 
     module _ (d : Desk) (w : deskWrong d ≡ false) where
@@ -132,7 +135,7 @@ module _ (h : Head) (f : List ℕ) (e : readHeader f ≡ acceptedHeader h) where
           (omega (arith, l .store), omega (arith, l .marks), omega (arith, l .scratch))
 
       pub ready : (out : List ℕ) → 32768 ≤ length out
-          → Ready h (record { store = take ((h .n + h .m) * h .s) (d .store); marks = take (h .n + h .m) (d .marks); scratch = take (h .m * h .s) (d .scratch); numbers = d .numbers; content = d .content; bounds = d .bounds }) out
+          → Ready h (deskOf (take ((h .n + h .m) * h .s) (d .store)) (take (h .n + h .m) (d .marks)) (take (h .m * h .s) (d .scratch)) (d .numbers) (d .content) (d .bounds)) out
       ready out room =
           let l = long d w in
           let b = desk-holds in
@@ -150,29 +153,23 @@ module _ (h : Head) (f : List ℕ) (e : readHeader f ≡ acceptedHeader h) where
 
 -- ---- the call
 
-pub desk-told : (d : Desk) (b v : Bool)
-    → b ≡ (not (eqb (length (d .store)) 32768) || not (eqb (length (d .marks)) 1056) || not (eqb (length (d .scratch)) 32768) || not (eqb (length (d .numbers)) 1024) || not (eqb (length (d .content)) 32768) || not (eqb (length (d .bounds)) 1024))
-    → b ≡ v → deskWrong d ≡ v
-unfolding deskWrong
-desk-told d b v e g = sym e ∙ g
-
 -- it is cleared by its lengths alone
 pub cleared-same : (d d′ : Desk) → length (d .store) ≡ length (d′ .store) → length (d .marks) ≡ length (d′ .marks) → length (d .scratch) ≡ length (d′ .scratch)
     → length (d .numbers) ≡ length (d′ .numbers) → length (d .content) ≡ length (d′ .content) → length (d .bounds) ≡ length (d′ .bounds) → cleared d ≡ cleared d′
 unfolding cleared
-cleared-same d d′ a b c n k l = λ i. record { store = zeros (a i); marks = zeros (b i); scratch = zeros (c i); numbers = zeros (n i); content = zeros (k i); bounds = zeros (l i) }
+cleared-same d d′ a b c n k l = λ i. deskOf (zeros (a i)) (zeros (b i)) (zeros (c i)) (zeros (n i)) (zeros (k i)) (zeros (l i))
 
 module _ (f : List ℕ) (d : Desk) (out : List ℕ) where
-  pub listed-wrong : deskWrong d ≡ true → _≡_ {A = Listed} (record { answer = Unwritten Lent; desk = d; output = out }) (listed f d out)
+  pub listed-wrong : deskWrong d ≡ true → listedOf (Unwritten Lent) d out ≡ listed f d out
   unfolding listed
   listed-wrong w = rw w
 
   module _ (w : deskWrong d ≡ false) where
-    pub listed-short : length out < 32768 → _≡_ {A = Listed} (record { answer = Unwritten OutputShort; desk = d; output = out }) (listed f d out)
+    pub listed-short : length out < 32768 → listedOf (Unwritten OutputShort) d out ≡ listed f d out
     unfolding listed
     listed-short h = rw (w, lt-ltb (length out) 32768 h)
 
     pub listed-good : 32768 ≤ length out → (r : ℕ) (after : List ℕ) (desk : Desk) → Printed r out after (listingOf f) → desk ≡ cleared d
-        → _≡_ {A = Listed} (record { answer = Bytes r; desk = desk; output = after }) (listed f d out)
+        → listedOf (Bytes r) desk after ≡ listed f d out
     unfolding listed
-    listed-good h r after desk p q = rw (w, le-ltb (length out) 32768 h) (λ i. record { answer = Bytes (p .0 i); desk = q i; output = p .1 i })
+    listed-good h r after desk p q = rw (w, le-ltb (length out) 32768 h) (λ i. listedOf (Bytes (p .0 i)) (q i) (p .1 i))

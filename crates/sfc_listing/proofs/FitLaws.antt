@@ -5,30 +5,31 @@ use mathlib.Core.Bool.{Bool, true, false, cond}
 use mathlib.Core.List.{List, [], _∷_, _++_}
 use native.Mathlib.Omega.{arith}
 use lib.Dec.{ltb, eqb}
-use lib.ListN.{length, length-append, length-replicate}
+use lib.ListN.{length, length-append}
 use Rattle.little.proofs.TestLaws.{or-false}
-use Rattle.little.specs.Runs.{zeros}
+use Rattle.little.proofs.ListLaws.{length-cut}
 use Rattle.sfc.specs.answer.Numbers.{Check, checked, verdict, reasonOf, numberOf}
 use Rattle.sfc.specs.format.Header.{regionOf, headOf, headerChecks}
-use Rattle.sfc.specs.session.Marks.{heldCount}
+use Rattle.sfc.specs.session.Marks.{heldCount, barredCount}
 use Rattle.sfc.specs.session.Lent.{marksWrong, lentWrong}
-use Rattle.sfc.specs.session.Session.{Session, sessionWrong}
-use Rattle.sfc.specs.note.Missing.{Range, missing, ranges}
+use Rattle.sfc.specs.session.Session.{Session, blank, sessionWrong}
+use Rattle.sfc.specs.note.Missing.{missing}
+use Rattle.sfc.specs.note.Ranges.{Range, ranges}
 use Rattle.sfc.specs.give.HandOut.{contentChecks}
+use Rattle.sfc_walk.specs.Walk.{chunksOf, walkOver}
 use Rattle.sfc_listing.specs.Text.{text, digits, decimal, hex, line}
-use Rattle.sfc_listing.specs.Listing.{sessionOf, barredCount, missingLine, missingLines, lastWord, startText, sessionText, programChecks, refusedText, listingOf}
-use Rattle.sfc_listing.specs.Lines.{uuidLine, shapeLine, countsLine}
+use Rattle.sfc_listing.specs.Listing.{between, sessionIn, uuidLine, shapeLine, countsLine, missingLine, missingLines, lastWord, startText, sessionText, programChecks, refusedText, listingOf}
 use Rattle.sfc.specs.declared.format.header.Head.{Head}
 use Rattle.sfc.specs.declared.answer.reason.Reason.{Reason}
 use Rattle.sfc.specs.declared.answer.reason.Checked.the-variants.{Good}
-use Rattle.sfc.proofs.GatherLaws.{length-cut}
 use Rattle.sfc.proofs.CheckLaws.{front-good, passed, all-passed}
-use Rattle.sfc.proofs.NoteExact.{note-theorems}
-use Rattle.sfc.proofs.RightLaws.{bytes-zeros, accepted-shape, blank-right}
-use Rattle.sfc_listing.proofs.WalkLaws.{all-lent}
+use Rattle.sfc.proofs.MarkLaws.{right-marks}
+use Rattle.sfc.proofs.RangesFew.{ranges-few}
+use Rattle.sfc.proofs.RightLaws.{accepted-shape, blank-right}
+use Rattle.sfc_walk.proofs.StepLaws.{all-lent}
 use Rattle.sfc_listing.proofs.FileLaws.{good-read}
 
--- ---- pieces, and one behind the other
+-- ---- pieces, and one after the other
 
 both : (xs ys : List ℕ) (a b : ℕ) → length xs ≤ a → length ys ≤ b → length (xs ++ ys) ≤ a + b
 both xs ys a b h k = omega (arith, length-append xs ys)
@@ -56,7 +57,7 @@ unfolding hex
 hex-long [] = refl
 hex-long (x ∷ b) = omega (arith, hex-long b)
 
--- a word and its number, and the same behind other text
+-- a word and its value, and the same after other text
 named : (word : List ℕ) (v a : ℕ) → length word ≡ a → length (word ++ decimal v) ≤ a + 20
 named word v a e = both word (decimal v) a 20 (omega arith) (digits-short 20 v)
 
@@ -124,7 +125,7 @@ module _ (h : Head) (x : Session) (right : sessionWrong h x ≡ false) (u : leng
   marks-right = or-false _ _ right .0
 
   few-ranges : length rs ≤ 512
-  few-ranges = note-theorems .note-written (zeros 16) (h .size) (h .n) (h .m) (h .s) (x .marks) (length-replicate {A = ℕ} 16 0) (bytes-zeros 16) marks-right .1
+  few-ranges = omega (arith, ranges-few .ranges-few (h .n) (x .marks), right-marks (h .size) (h .n) (h .m) (h .s) (x .marks) marks-right .shape .n-most)
 
   session-short : length (sessionText h x) ≤ 25820
   unfolding sessionText
@@ -143,13 +144,13 @@ module _ (f : List ℕ) where
       let limit : List Check = (ltb 32768 ((head .n + head .m) * head .s), 15) ∷ [] in
       front-good (headerChecks f) limit (all-passed (headerChecks f ++ limit) (passed (programChecks head f) e .1))
 
-  session-right : verdict (headerChecks f) ≡ Good → sessionWrong head (sessionOf head f) ≡ false
-  unfolding sessionOf
-  session-right g = all-lent head _ _ (blank-right head (accepted-shape f head (good-read f g)) .lent)
+  session-right : verdict (headerChecks f) ≡ Good → sessionWrong head (sessionIn head f) ≡ false
+  unfolding sessionIn walkOver
+  session-right g = all-lent head (blank head) (chunksOf head (between f)) (blank-right head (accepted-shape f head (good-read f g)) .lent)
 
   pub listing-fits : length (listingOf f) ≤ 32768
   unfolding listingOf
   listing-fits =
-      decided (programChecks head f) (λ (r : Reason). refusedText (numberOf r)) (sessionText head (sessionOf head f)) 32768
+      decided (programChecks head f) (λ (r : Reason). refusedText (numberOf r)) (sessionText head (sessionIn head f)) 32768
       (λ r. omega (arith, refused-short (numberOf r)))
-      (λ e. omega (arith, session-short head (sessionOf head f) (session-right (header-good e)) (length-cut (regionOf f) 4 16)))
+      (λ e. omega (arith, session-short head (sessionIn head f) (session-right (header-good e)) (length-cut (regionOf f) 4 16)))

@@ -1,8 +1,7 @@
--- The laws that the proofs of the listing's functions cite, and the proofs of the statements in specs/.
-pub mod LineLaws
-pub mod WalkLaws
-pub mod ReportLaws
-pub mod FileLaws
-pub mod FitLaws
+-- The laws that the proofs of the listing's functions cite, and the proofs of the statements in specs/, which alone are public.
+mod LineLaws
+mod ReportLaws
+mod FileLaws
+mod FitLaws
 pub mod Demand1
 pub mod OwnFile

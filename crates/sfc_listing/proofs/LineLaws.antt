@@ -1,4 +1,4 @@
--- What the proofs of the listing's text cite: pieces one behind the other, the loops that append, the digits of a number.
+-- What the proofs of the listing's text cite: pieces one after the other, the loops that append, the digits of a value.
 -- Assumes nothing.
 use Prim.Native.Nat.{ℕ, zero, suc, _+_, _-_, _*_, _/_, _%_, _^_, _<_, _≤_}
 use mathlib.Core.Path.{_≡_, refl, sym, ap, ap₂, _∙_}
@@ -11,22 +11,19 @@ use lib.ListN.{length, getD, set, take, drop, length-append, length-set, drop-of
 use lib.Seq.{drop-cons, set-split, drop-drop, append-snoc, drop-length}
 use Rattle.little.specs.Parts.{part, put}
 use Rattle.little.proofs.PartLaws.{length-put, part-rest, put-none}
-use Rattle.sfc.specs.note.Missing.{Range}
-use Rattle.sfc.specs.note.Note.{bounds}
+use Rattle.little.proofs.ListLaws.{put-next, copied-in, length-cut, drop-set}
+use Rattle.sfc.specs.note.Ranges.{Range, bounds}
 use Rattle.sfc_listing.specs.Text.{text, digits, decimal, hexDigit, hex, line}
-use Rattle.sfc_listing.specs.Listing.{missingLine, missingLines, startText, refusedText}
-use Rattle.sfc_listing.specs.Lines.{uuidLine, shapeLine, countsLine, rangeLine, boundsLines, Appended}
-use Rattle.sfc.proofs.FillLaws.{put-next}
-use Rattle.sfc.proofs.GatherLaws.{copied-in, length-cut}
-use Rattle.sfc.proofs.MissingLaws.{drop-set}
+use Rattle.sfc_listing.specs.Listing.{uuidLine, shapeLine, countsLine, missingLine, missingLines, startText, refusedText}
+use Rattle.sfc_listing.specs.Lines.{rangeLine, boundsLines, Appended, Printed}
 
--- the numbers of ranges make the lines of the ranges
+-- first and last of each range make the lines of the ranges
 pub bounds-lines : (rs : List Range) → boundsLines (bounds rs) ≡ missingLines rs
 unfolding boundsLines bounds missingLines
 bounds-lines [] = refl
 bounds-lines (r ∷ rs) = ap (λ (x : List ℕ). missingLine r ++ x) (bounds-lines rs)
 
--- ---- pieces one behind the other
+-- ---- pieces one after the other
 
 pub joined : {a b at r r′ : ℕ} {out mid after xs ys : List ℕ} → at + a ≤ length out → Appended a out at xs r mid → Appended b mid r ys r′ after
     → Appended (a + b) out at (xs ++ ys) r′ after
@@ -36,7 +33,7 @@ joined {a} {b} {at} {r} {r′} {out} {mid} {after} {xs} {ys} h p q = record {
   made = q .made ∙ ap₂ (λ (o : List ℕ) (k : ℕ). put o k ys) (p .made) (p .place) ∙ put-next out at xs ys (omega (arith, p .short));
 }
 
--- a name and its number behind other pieces
+-- a name and its value after other pieces
 numbered : {a b at r r′ : ℕ} {out mid after xs : List ℕ} (name number : List ℕ) → at + a ≤ length out → Appended a out at xs r mid
     → Appended b mid r (name ++ number) r′ after → Appended (a + b) out at (xs ++ name ++ number) r′ after
 numbered {xs = xs} name number h p q = rw (append-assoc xs name number) (joined h p q)
@@ -81,7 +78,7 @@ pub text-made : (out xs ys : List ℕ) (at : ℕ) → at + length xs ≤ length 
     → Appended (length xs) out at xs (at + length xs) (take at out ++ (ys ++ drop (at + length xs - at) (drop at out)))
 text-made out xs ys at h e = record { place = refl; short = omega arith; made = copied-in out xs ys at (length xs) h refl e }
 
--- two bytes stored one behind the other
+-- two bytes stored one after the other
 two-made : (out : List ℕ) (at x y : ℕ) → at + 2 ≤ length out → Appended 2 out at (x ∷ y ∷ []) (at + 2) (set (set out at x) (at + 1) y)
 two-made out at x y h = record {
   place = refl;
@@ -121,7 +118,7 @@ hex-end b out₀ out at₀ at i h f =
     let g : Appending (2 * length b) out₀ at₀ (hex b) (hex (drop (length b) b)) at out = rw e at (f .1) in
     appending-end (rw (drop-length b) at g)
 
--- ---- the digits of a number, from the last to the first
+-- ---- the digits of a value, from the last to the first
 
 digits-more : (k v : ℕ) → 9 < v → digits (suc k) v ≡ digits k (v / 10) ++ ((48 + v % 10) ∷ [])
 unfolding digits
@@ -131,7 +128,7 @@ digits-last : (k v : ℕ) → v ≤ 9 → digits (suc k) v ≡ (48 + v) ∷ []
 unfolding digits
 digits-last k v h = rw (lt-ltb v 10 (omega arith))
 
--- the digits of what is left, and those gathered from place i on, are the number
+-- the digits of what is left, and those gathered from place i on, are the value
 pub record Gathering (v : ℕ) (d : List ℕ) (rest i : ℕ) : Type 0 where
   pub some : 0 < i
   pub most : i ≤ 20
@@ -168,7 +165,7 @@ gather-end v d rest (suc k) h g =
     let s : drop k (set d k (48 + rest)) ≡ (48 + rest) ∷ drop (suc k) d = rw n at (drop-set d k (48 + rest) (omega (arith, g .long, g .most))) in
     rw e (s ∙ (rw (digits-last k rest h) at (g .all)))
 
--- the number's text, as the used part of the digits is copied
+-- the text of a value, as the used part of the digits is copied
 pub decimal-made : (v : ℕ) (d : List ℕ) (rest i n : ℕ) {out after : List ℕ} {at r : ℕ} → rest ≤ 9 → Gathering v d rest i → n ≡ 20 - (i - 1)
     → Appended (length (part (set d (i - 1) (48 + rest)) (i - 1) n)) out at (part (set d (i - 1) (48 + rest)) (i - 1) n) r after
     → Appended 20 out at (decimal v) r after
@@ -180,7 +177,7 @@ decimal-made v d rest i n {out} {after} {at} {r} h g en p =
     let q : Appended (length (decimal v)) out at (decimal v) r after = rw e at p in
     within q (omega (arith, ap length (sym e), length-cut (set d (i - 1) (48 + rest)) (i - 1) n))
 
--- ---- the loop over the ranges' numbers
+-- ---- the loop over first and last of each range
 
 abbrev pub Lining : List ℕ → List ℕ → ℕ → ℕ → List ℕ → ℕ → Type 0
 Lining b out₀ at₀ at out i = (i ≤ length b) × (i % 2 ≡ 0) × Appending (25 * i) out₀ at₀ (boundsLines b) (boundsLines (drop i b)) at out
@@ -240,12 +237,12 @@ range-made first last h p q e = joined (omega arith) (numbered (text "-") (decim
 
 -- ---- the whole texts, from the output's front
 
-front : {a r : ℕ} {out after xs : List ℕ} → Appended a out 0 xs r after → (r ≡ length xs) × (after ≡ put out 0 xs)
+front : {a r : ℕ} {out after xs : List ℕ} → Appended a out 0 xs r after → Printed r out after xs
 front p = (omega (arith, p .place), p .made)
 
 pub refused-made : (number : ℕ) {r₁ r : ℕ} {out o₁ after : List ℕ} → 32768 ≤ length out
     → Appended 28 out 0 (text "refused " ++ decimal number) r₁ o₁ → Appended 1 o₁ r₁ (10 ∷ []) r after
-    → (r ≡ length (refusedText number)) × (after ≡ put out 0 (refusedText number))
+    → Printed r out after (refusedText number)
 unfolding refusedText
 refused-made number h p e = front (joined (omega arith) p e)
 
@@ -253,7 +250,7 @@ pub session-made : (uuid : List ℕ) (n m size s held barred : ℕ) (b word : Li
     → (32768 ≤ length out) × (length b ≤ 1024) × (length b % 2 ≡ 0)
     → Appended 42 out 0 (uuidLine uuid) r₁ o₁ → Appended 111 o₁ r₁ (shapeLine n m size s) r₂ o₂ → Appended 54 o₂ r₂ (countsLine held barred) r₃ o₃
     → Appended (25 * length b) o₃ r₃ (boundsLines b) r₄ o₄ → Appended 13 o₄ r₄ (line word) r after
-    → (r ≡ length (startText uuid n m size s held barred ++ boundsLines b ++ line word)) × (after ≡ put out 0 (startText uuid n m size s held barred ++ boundsLines b ++ line word))
+    → Printed r out after (startText uuid n m size s held barred ++ boundsLines b ++ line word)
 unfolding startText
 session-made uuid n m size s held barred b word h p₁ p₂ p₃ p₄ p₅ =
     front

@@ -2,7 +2,7 @@
 -- file's own, in order, and after them every block is held. Assumes nothing.
 use Prim.Native.Nat.{ℕ, zero, suc, _+_, _-_, _*_, _≤_, _<_}
 use mathlib.Core.Path.{_≡_, refl, sym, ap, ap₂, _∙_}
-use mathlib.Core.Bool.{Bool, true, cond}
+use mathlib.Core.Bool.{Bool, true, false, cond}
 use mathlib.Core.List.{List, [], _∷_, _++_, map, append-nil}
 use native.Mathlib.Decide.{ℕ-discrete}
 use native.Mathlib.Nat.{mul-le-mul, suc-mul}
@@ -16,18 +16,20 @@ use Rattle.little.proofs.PartLaws.{length-part, part-part, block-inside}
 use Rattle.little.specs.Runs.{any, zeros, among}
 use Rattle.sfc.specs.answer.Numbers.{verdict, passes, numberOf}
 use Rattle.sfc.specs.format.Header.{lengthField, acceptedHeader}
-use Rattle.sfc.specs.format.Chunk.{chunkLength, lengthChecks}
+use Rattle.sfc.specs.format.Chunk.{chunkLength, lengthChecks, measureChecks}
 use Rattle.sfc.specs.answer.Places.{place}
-use Rattle.sfc.specs.session.Marks.{isHeld, heldCount}
+use Rattle.sfc.specs.session.Marks.{isHeld, heldCount, barredCount}
 use Rattle.sfc.specs.session.Session.{Session, blank}
 use Rattle.sfc.specs.session.History.{afterAll}
-use Rattle.sfc.specs.note.Missing.{missing, ranges}
+use Rattle.sfc.specs.note.Missing.{unheldFrom, missing}
+use Rattle.sfc.specs.note.Ranges.{ranges}
 use Rattle.sfc.specs.give.HandOut.{contentChecks, handOutChecks, handOut}
-use Rattle.sfc.specs.session.Lent.{Lent}
+use Rattle.sfc.specs.session.Lent.{Lent, shapeWrong}
 use Rattle.sfc.specs.writing.Writer.{Input, size, blocks, body, payload, chunk, fileOf, headFor}
 use Rattle.sfc.specs.demand.Demand2.{AllBelow, different, received, Lawful, RoomFor}
+use Rattle.sfc_walk.specs.Walk.{chunksIn, chunksOf, walkOver}
 use Rattle.sfc_listing.specs.Text.{text, line}
-use Rattle.sfc_listing.specs.Listing.{between, chunksIn, sessionOf, barredCount, missingLines, lastWord, startText, sessionText, listingOf}
+use Rattle.sfc_listing.specs.Listing.{between, sessionIn, missingLines, lastWord, startText, sessionText, listingOf}
 use Rattle.sfc_listing.specs.Steps.{acceptedText}
 use Rattle.sfc_listing.specs.OwnFile.{OwnFile}
 use Rattle.sfc.specs.declared.format.header.Head.{Head}
@@ -41,15 +43,17 @@ use Rattle.sfc.proofs.InputLaws.{RightInput, right-input}
 use Rattle.sfc.proofs.FileLaws.{length-written}
 use Rattle.sfc.proofs.HeaderBack.{field-back}
 use Rattle.sfc.proofs.ChunkBack.{length-back, length-passed}
+use Rattle.sfc.proofs.MissingLaws.{unheld-count}
 use Rattle.sfc.proofs.DifferentLaws.{held-different}
-use Rattle.sfc.proofs.RoundTrip.{made, received-holds}
-use Rattle.sfc.proofs.Demand1.{handOutSeen}
-use Rattle.sfc.proofs.Demand2.{demand2}
+use Rattle.sfc.proofs.demand.RoundTrip.{made, received-holds}
+use Rattle.sfc.proofs.demand.Demand1.{handOutSeen}
+use Rattle.sfc.proofs.demand.Demand2.{demand2}
+use Rattle.sfc_walk.proofs.StepLaws.{no-chunk}
 use Rattle.sfc_listing.proofs.FileLaws.{listing-accepted}
 
 -- ---- the indices in order
 
--- k numbers, from i on
+-- k indices, from i on
 upFrom : ℕ → ℕ → List ℕ
 upFrom i zero = []
 upFrom i (suc k) = i ∷ upFrom (suc i) k
@@ -75,17 +79,20 @@ up-has i (suc k) j a b = go (ℕ-discrete j i) (λ d. up-has (suc i) k j (omega 
 
 -- ---- marks that all say held
 
+none-unheld : (i n : ℕ) → unheldFrom i (replicate n 1) ≡ []
+unfolding unheldFrom
+none-unheld i zero = refl
+none-unheld i (suc n) = none-unheld (suc i) n
+
 all-held : (n : ℕ) → heldCount (replicate n 1) ≡ n
-unfolding heldCount
-all-held zero = refl
-all-held (suc n) = ap suc (all-held n)
+all-held n = omega (arith, unheld-count 0 (replicate n 1), ap length (none-unheld 0 n), length-replicate {A = ℕ} n 1)
 
 none-barred : (n : ℕ) → barredCount (replicate n 1) ≡ 0
 unfolding barredCount
 none-barred zero = refl
 none-barred (suc n) = none-barred n
 
--- they are as many as the numbers below n, which are thus all different
+-- they are as many as the indices below n, which are thus all different
 up-different : (n : ℕ) → different (upFrom 0 n) ≡ n
 up-different n =
     let l : length (replicate {A = ℕ} n 1) ≡ n = length-replicate n 1 in
@@ -116,10 +123,13 @@ module _ (h : Head) (x : Session) (full : x .marks ≡ replicate (h .n + h .m) 1
 
 -- ---- the chunks of a file
 
-no-more : (most s : ℕ) → chunksIn most s [] ≡ []
-unfolding chunksIn
-no-more zero s = refl
-no-more (suc most) s = refl
+-- in none there is no chunk, whatever 71 says of the head
+no-more : (most : ℕ) (h : Head) → chunksIn most h [] ≡ []
+no-more most h = no-chunk h [] most (none (shapeWrong (h .size) (h .n) (h .m) (h .s)))
+  where
+    none : (b : Bool) → passes ((b, 71) ∷ lengthChecks (h .s) []) ≡ false
+    none true = refl
+    none false = refl
 
 module _ (w : Input) (l : Lawful w) where
   right : RightInput w
@@ -163,48 +173,48 @@ module _ (w : Input) (l : Lawful w) where
         let e : i * width + width ≡ suc i * width = omega (arith, suc-mul i width) in
         sym (take-append-drop width (drop (i * width) chunks)) ∙ ap₂ _++_ there (drop-drop width (i * width) chunks ∙ ap (λ (k : ℕ). drop k chunks) e)
 
-    -- the walk finds it, and goes on behind it
+    -- the walk finds it, and goes on after it
     module _ (rest : List ℕ) where
-      taken : passes (lengthChecks (w .s) (chunk w i ++ rest)) ≡ true
+      taken : passes (measureChecks (headFor w) (chunk w i ++ rest)) ≡ true
       unfolding chunk
       taken =
           let c : List ℕ = chunk w i ++ rest in
-          good-passes (lengthChecks (w .s) c) (all-passed (lengthChecks (w .s) c) (length-passed (headFor w) i (payload w i) rest (made w (l .uuid-long) (right .shape) i h)))
+          rw (right .shape) (good-passes (lengthChecks (w .s) c) (all-passed (lengthChecks (w .s) c) (length-passed (headFor w) i (payload w i) rest (made w (l .uuid-long) (right .shape) i h))))
 
       stepped : chunkLength (chunk w i ++ rest) ≡ width
       unfolding chunk
       stepped = ap (λ (k : ℕ). 84 + k) (length-back (headFor w) i (payload w i) rest (made w (l .uuid-long) (right .shape) i h))
 
-      found : (most : ℕ) → chunksIn (suc most) (w .s) (chunk w i ++ rest) ≡ chunk w i ∷ chunksIn most (w .s) rest
+      found : (most : ℕ) → chunksIn (suc most) (headFor w) (chunk w i ++ rest) ≡ chunk w i ∷ chunksIn most (headFor w) rest
       unfolding chunksIn
       found most =
           let n = length-written w (l .uuid-long) (l .right) i in
           rw (taken, stepped, take-at (chunk w i) rest width n, drop-at (chunk w i) rest width n)
 
-    next : (most : ℕ) → chunksIn (suc most) (w .s) (drop (i * width) chunks) ≡ chunk w i ∷ chunksIn most (w .s) (drop (suc i * width) chunks)
-    next most = ap (chunksIn (suc most) (w .s)) from ∙ found (drop (suc i * width) chunks) most
+    next : (most : ℕ) → chunksIn (suc most) (headFor w) (drop (i * width) chunks) ≡ chunk w i ∷ chunksIn most (headFor w) (drop (suc i * width) chunks)
+    next most = ap (chunksIn (suc most) (headFor w)) from ∙ found (drop (suc i * width) chunks) most
 
-  walk : (most k i : ℕ) → i + k ≡ count → k ≤ most → chunksIn most (w .s) (drop (i * width) chunks) ≡ map (chunk w) (upFrom i k)
+  walk : (most k i : ℕ) → i + k ≡ count → k ≤ most → chunksIn most (headFor w) (drop (i * width) chunks) ≡ map (chunk w) (upFrom i k)
   unfolding upFrom
   walk most zero i e h =
       let c : i ≡ count = omega arith in
-      ap (chunksIn most (w .s)) (drop-of-length-le chunks {i = i * width} (omega (arith, chunks-long, ap (λ (k : ℕ). k * width) c))) ∙ no-more most (w .s)
+      ap (chunksIn most (headFor w)) (drop-of-length-le chunks {i = i * width} (omega (arith, chunks-long, ap (λ (k : ℕ). k * width) c))) ∙ no-more most (headFor w)
   walk zero (suc k) i e h = absurd (omega arith)
   walk (suc most) (suc k) i e h = next i (omega arith) most ∙ ap (λ (r : List (List ℕ)). chunk w i ∷ r) (walk most k (suc i) (omega arith) (omega arith))
 
   abbrev all : List ℕ
   all = upFrom 0 count
 
-  all-chunks : chunksIn (length chunks) (w .s) chunks ≡ map (chunk w) all
+  all-chunks : chunksOf (headFor w) chunks ≡ map (chunk w) all
   all-chunks =
       let z : 0 ≡ 0 * width = omega arith in
       let m : count * 1 ≤ count * width = mul-le-mul {n₁ = count} {m₁ = 1} {n₂ = count} {m₂ = width} (omega arith) (omega arith) in
-      ap (λ (k : ℕ). chunksIn (length chunks) (w .s) (drop k chunks)) z ∙ walk (length chunks) count 0 (omega arith) (omega (arith, chunks-long))
+      ap (λ (k : ℕ). chunksIn (length chunks) (headFor w) (drop k chunks)) z ∙ walk (length chunks) count 0 (omega arith) (omega (arith, chunks-long))
 
   -- ---- the session
 
-  is-received : sessionOf (headFor w) (fileOf w) ≡ received w all
-  unfolding sessionOf
+  is-received : sessionIn (headFor w) (fileOf w) ≡ received w all
+  unfolding sessionIn walkOver
   is-received = ap (afterAll (headFor w) (blank (headFor w))) all-chunks
 
   few : length all ≤ 4294967295

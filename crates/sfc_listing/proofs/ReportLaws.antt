@@ -1,98 +1,92 @@
--- What a session's listing says: its missing ranges by way of a note, its last word, and all of it; and that the memory is
--- as long as the calls behind it want. Assumes nothing.
+-- What a session's listing says: its counts, its missing ranges, its last word, and all of it; and that the memory is as long
+-- as the calls want it. Assumes nothing.
 use Prim.Native.Nat.{ℕ, _+_, _*_, _%_, _≤_}
 use mathlib.Core.Path.{_≡_, refl, sym, ap, _∙_}
 use mathlib.Core.Bool.{false, cond}
-use mathlib.Core.List.{List, _++_}
+use mathlib.Core.List.{List}
 use native.Mathlib.Omega.{arith}
 use native.Mathlib.Nat.{mul-le-mul}
 use borrow.Author.Tests.{eq-eqb, ne-eqb, le-ltb}
 use lib.Dec.{eqb, ltb}
 use lib.ListN.{length, take, drop}
 use lib.Seq.{take-at}
-use Rattle.little.specs.Fields.{Bytes}
 use Rattle.little.specs.Parts.{put}
-use Rattle.little.proofs.TestLaws.{or-false}
 use Rattle.little.specs.Runs.{zeros}
+use Rattle.little.proofs.TestLaws.{or-false}
 use Rattle.sfc.specs.answer.Numbers.{Answered, checked, verdict, numberOf}
-use Rattle.sfc.specs.session.Marks.{heldCount}
-use Rattle.sfc.specs.session.Lent.{marksWrong, lentWrong, Lent, rebuildWrong}
 use Rattle.sfc.specs.answer.Places.{place}
-use Rattle.sfc.specs.session.Session.{Session}
-use Rattle.sfc.specs.note.Missing.{Range, missing, ranges}
-use Rattle.sfc.specs.note.Note.{noteOf, writeNote, bounds, readNote}
-use Rattle.sfc.specs.note.NoteTheorems.{Sayable}
+use Rattle.sfc.specs.session.Marks.{heldCount, barredCount}
+use Rattle.sfc.specs.session.Lent.{marksWrong, lentWrong, Lent, lentOf, rebuildWrong, countMarks}
+use Rattle.sfc.specs.session.Tallies.{noTallies}
+use Rattle.sfc.specs.session.Session.{Session, sessionOf, blank, sessionWrong}
+use Rattle.sfc.specs.note.Missing.{missing}
+use Rattle.sfc.specs.note.Ranges.{ranges, boundsFor, listRanges}
 use Rattle.sfc.specs.give.HandOut.{Rebuilding, contentChecks, handOut}
-use Rattle.sfc_listing.specs.Text.{text, line}
-use Rattle.sfc_listing.specs.Listing.{Desk, barredCount, lastWord, startText, sessionText}
-use Rattle.sfc_listing.specs.Lines.{wordOf, boundsLines}
-use Rattle.sfc_listing.specs.Steps.{Printed, untold, walked, Ready}
+use Rattle.sfc_walk.specs.Walk.{chunksOf, Walk, walkOf, walkOver}
+use Rattle.sfc_listing.specs.Text.{text}
+use Rattle.sfc_listing.specs.Listing.{Desk, deskOf, lastWord, sessionText}
+use Rattle.sfc_listing.specs.Lines.{wordOf, sessionLines, Printed}
+use Rattle.sfc_listing.specs.Steps.{Ready}
 use Rattle.sfc.specs.declared.format.header.Head.{Head}
 use Rattle.sfc.specs.declared.answer.places.BytePlace.{BytePlace}
 use Rattle.sfc.specs.declared.answer.reason.Reason.{Reason}
 use Rattle.sfc.specs.declared.answer.reason.Checked.{Checked}
 use Rattle.sfc.specs.declared.answer.reason.Checked.the-variants.{Good, Refused}
-use Rattle.sfc.specs.declared.note.resend.NoteRead.{NoteRead}
-use Rattle.sfc.specs.declared.answer.written.Written.{Written}
-use Rattle.sfc.specs.declared.answer.written.Written.the-variants.{Bytes as Filled, Refused as Unwritten}
+use Rattle.sfc.specs.declared.session.marks.MarksCounted.{MarksCounted}
+use Rattle.sfc.specs.declared.session.marks.MarksCounted.the-variants.{Counts, Refused as NotCounted}
+use Rattle.sfc.specs.declared.session.tallies.Tallies.{Tallies}
+use Rattle.sfc.specs.declared.note.missing.Listed.{Listed}
+use Rattle.sfc.specs.declared.note.missing.Listed.the-variants.{Count, Refused as Unlisted}
 use Rattle.sfc.specs.declared.give.hand_out.HandedOut.{HandedOut}
 use Rattle.sfc.specs.declared.give.hand_out.HandedOut.the-variants.{Complete, Refused as NotHandedOut}
 use Rattle.sfc_listing.specs.declared.lines.LastWord.{LastWord}
 use Rattle.sfc_listing.specs.declared.lines.LastWord.the-variants.{Complete as Whole, HashDiffers, Incomplete}
 use Rattle.sfc.proofs.CheckLaws.{good-all, refused-all, tells}
-use Rattle.sfc.proofs.Demand1.{handOutSeen}
-use Rattle.sfc.proofs.NoteLaws.{length-note, bounds-long}
-use Rattle.sfc.proofs.NoteExact.{note-theorems}
+use Rattle.sfc.proofs.demand.Demand1.{handOutSeen}
+use Rattle.sfc.proofs.MarkLaws.{right-marks}
+use Rattle.sfc.proofs.RangesFew.{ranges-few}
 use Rattle.sfc.proofs.SessionLaws.{right-lent}
 use Rattle.sfc.proofs.LimitLaws.{wanted-holds}
 use Rattle.sfc.proofs.RightLaws.{blank-right}
-use Rattle.sfc_listing.proofs.WalkLaws.{walked-lent}
+use Rattle.sfc_walk.proofs.StepLaws.{all-lent}
 use Rattle.sfc_listing.proofs.LineLaws.{bounds-lines}
 
--- ---- the missing ranges
+-- ---- what right marks come to
 
 -- the front of an output is what was put there
 take-put : (out b : List ℕ) → take (length b) (put out 0 b) ≡ b
 take-put out b = take-at b (drop (length b) out) (length b) refl
 
-module _ (uuid : List ℕ) (size n m s : ℕ) (marks note : List ℕ) (u : length uuid ≡ 16) (y : Bytes uuid) (right : marksWrong size n m s marks ≡ false) (long : length note ≡ 32768) where
-  abbrev rs : List Range
-  rs = ranges (missing n marks)
+module _ (h : Head) (marks : List ℕ) (right : marksWrong (h .size) (h .n) (h .m) (h .s) marks ≡ false) where
+  module _ (x : MarksCounted) (e : x ≡ countMarks h marks) where
+    counted : x ≡ Counts (heldCount marks) (barredCount marks)
+    unfolding countMarks
+    counted = rw right at e
 
-  said : Sayable uuid rs × (length rs ≤ 512)
-  said = note-theorems .note-written uuid size n m s marks u y right
+    pub counts-told : (held barred : ℕ) → x ≡ Counts held barred → (held ≡ heldCount marks) × (barred ≡ barredCount marks)
+    counts-told held barred f = let q : Counts held barred ≡ Counts (heldCount marks) (barredCount marks) = sym f ∙ counted in (cc, cc)
 
-  module _ (answer : Written) (after : List ℕ) (e : _≡_ {A = Answered Written} (record { answer = answer; output = after }) (writeNote uuid size n m s marks note)) where
-    written : _≡_ {A = Answered Written} (record { answer = answer; output = after }) (record { answer = Filled (length (noteOf uuid rs)); output = put note 0 (noteOf uuid rs) })
-    unfolding writeNote
-    written =
-        let l : ltb (length note) (length (noteOf uuid rs)) ≡ false = le-ltb (length note) (length (noteOf uuid rs)) (omega (arith, length-note uuid rs u, said .1)) in
-        rw (right, l) at e
+    pub counts-refused : {A : Type 0} (r : Reason) → x ≡ NotCounted r → A
+    counts-refused r f = let q : Counts (heldCount marks) (barredCount marks) ≡ NotCounted r = sym counted ∙ f in absurd (let z : _≡_ {A = ℕ} 0 1 = cc in omega arith)
 
-    answered : answer ≡ Filled (length (noteOf uuid rs))
-    answered = ap (λ (a : Answered Written). a .answer) written
+  module _ (out left : List ℕ) (room : length out ≡ 1024) (x : Listed) (e : _≡_ {A = Answered Listed} (record { answer = x; output = left }) (listRanges h marks out)) where
+    given : _≡_ {A = Answered Listed} (record { answer = x; output = left }) (record { answer = Count (length (boundsFor h marks)); output = put out 0 (boundsFor h marks) })
+    given = e ∙ ranges-few .ranges-given h marks out right (omega arith)
 
-    pub note-refused : {A : Type 0} (r : Reason) → answer ≡ Unwritten r → A
-    note-refused r f = let q : Filled (length (noteOf uuid rs)) ≡ Unwritten r = sym answered ∙ f in absurd (let z : _≡_ {A = ℕ} 0 1 = cc in omega arith)
+    counts : x ≡ Count (length (boundsFor h marks))
+    counts = ap (λ (a : Answered Listed). a .answer) given
 
-    module _ (k : ℕ) (f : answer ≡ Filled k) where
-      is-long : k ≡ length (noteOf uuid rs)
-      is-long = let q : Filled k ≡ Filled (length (noteOf uuid rs)) = sym f ∙ answered in cc
+    pub bounds-told : (k : ℕ) → x ≡ Count k → (take k left ≡ boundsFor h marks) × (k ≤ 1024) × (k % 2 ≡ 0)
+    bounds-told k f =
+        let q : Count k ≡ Count (length (boundsFor h marks)) = sym f ∙ counts in
+        let l : k ≡ length (boundsFor h marks) = cc in
+        let o : left ≡ put out 0 (boundsFor h marks) = ap (λ (a : Answered Listed). a .output) given in
+        let n : h .n ≤ 1024 = right-marks (h .size) (h .n) (h .m) (h .s) marks right .shape .n-most in
+        let t : k ≡ 2 * length (ranges (missing (h .n) marks)) = l ∙ ranges-few .bounds-long (ranges (missing (h .n) marks)) in
+        (rw (l, o) (take-put out (boundsFor h marks)), omega (arith, ranges-few .bounds-few (h .n) marks n), omega arith)
 
-      pub note-inside : k ≤ 32768
-      note-inside = omega (arith, is-long, length-note uuid rs u, said .1)
-
-      front : take k after ≡ noteOf uuid rs
-      front = rw (is-long, ap (λ (a : Answered Written). a .output) written) (take-put note (noteOf uuid rs))
-
-      pub ranges-read : (out left : List ℕ) (x : NoteRead) → length out ≡ 1024 → _≡_ {A = Answered NoteRead} (record { answer = x; output = left }) (readNote (take k after) out)
-          → (take (2 * x .ranges) left ≡ bounds rs) × (2 * x .ranges ≤ 1024) × (2 * x .ranges % 2 ≡ 0)
-      ranges-read out left x room g =
-          let q = g ∙ ap (λ (b : List ℕ). readNote b out) front ∙ note-theorems .note-read-back uuid rs (said .0) out (omega (arith, said .1)) in
-          let c : x .ranges ≡ length rs = ap (λ (a : Answered NoteRead). a .answer .ranges) q in
-          let o : left ≡ put out 0 (bounds rs) = ap (λ (a : Answered NoteRead). a .output) q in
-          let l : 2 * x .ranges ≡ length (bounds rs) = omega (arith, bounds-long rs) in
-          (rw (l, o) (take-put out (bounds rs)), omega (arith, said .1), omega arith)
+    pub bounds-refused : {A : Type 0} (r : Reason) → x ≡ Unlisted r → A
+    bounds-refused r f = let q : Count (length (boundsFor h marks)) ≡ Unlisted r = sym counts ∙ f in absurd (let z : _≡_ {A = ℕ} 0 1 = cc in omega arith)
 
 -- ---- the last word
 
@@ -111,19 +105,19 @@ module _ (h : Head) (store marks : List ℕ) (l : Lent) (right : rebuildWrong h 
   abbrev word : Reason → List ℕ
   word r = cond (eqb (numberOf r) 51) (text "hash differs") (text "incomplete")
 
-  refused-word : (r : Reason) → answer ≡ NotHandedOut r → lastWord h (untold store marks) ≡ word r
+  refused-word : (r : Reason) → answer ≡ NotHandedOut r → lastWord h (sessionOf store marks noTallies) ≡ word r
   unfolding lastWord
   refused-word r f = refused-all word (contentChecks h store marks) (text "complete") r (told (Refused r) (ap handOutSeen f))
 
-  pub word-whole : (p : BytePlace) → answer ≡ Complete p → wordOf Whole ≡ lastWord h (untold store marks)
+  pub word-whole : (p : BytePlace) → answer ≡ Complete p → wordOf Whole ≡ lastWord h (sessionOf store marks noTallies)
   unfolding wordOf lastWord
   word-whole p f = sym (good-all word (contentChecks h store marks) (text "complete") (told Good (ap handOutSeen f)))
 
-  pub word-differs : (r : Reason) (k : ℕ) → answer ≡ NotHandedOut r → k ≡ numberOf r → k ≡ 51 → wordOf HashDiffers ≡ lastWord h (untold store marks)
+  pub word-differs : (r : Reason) (k : ℕ) → answer ≡ NotHandedOut r → k ≡ numberOf r → k ≡ 51 → wordOf HashDiffers ≡ lastWord h (sessionOf store marks noTallies)
   unfolding wordOf
   word-differs r k f g q = rw (refused-word r f, eq-eqb (numberOf r) 51 (sym g ∙ q))
 
-  pub word-few : (r : Reason) (k : ℕ) → answer ≡ NotHandedOut r → k ≡ numberOf r → (k ≡ 51 → ⊥) → wordOf Incomplete ≡ lastWord h (untold store marks)
+  pub word-few : (r : Reason) (k : ℕ) → answer ≡ NotHandedOut r → k ≡ numberOf r → (k ≡ 51 → ⊥) → wordOf Incomplete ≡ lastWord h (sessionOf store marks noTallies)
   unfolding wordOf
   word-few r k f g q = rw (refused-word r f, ne-eqb (numberOf r) 51 (λ z. q (g ∙ z)))
 
@@ -136,7 +130,7 @@ module _ (h : Head) (d : Desk) (out : List ℕ) (y : Ready h d out) where
     marks-right = or-false _ _ lent .0
 
     pub rebuild-right : (scratch numbers content : List ℕ) → length scratch ≡ length (d .scratch) → length numbers ≡ length (d .numbers)
-        → rebuildWrong h (d .store) (d .marks) (record { scratch = scratch; numbers = numbers; output = content }) ≡ false
+        → rebuildWrong h (d .store) (d .marks) (lentOf scratch numbers content) ≡ false
     unfolding rebuildWrong
     rebuild-right scratch numbers content es en =
         rw (lent, eq-eqb (length scratch) (h .m * h .s) (es ∙ y .scratch-long), eq-eqb (length numbers) 1024 (en ∙ y .numbers-long))
@@ -148,25 +142,31 @@ module _ (h : Head) (d : Desk) (out : List ℕ) (y : Ready h d out) where
         omega (arith, wanted-holds (h .size) (h .s) (omega (arith, r .shape .s-least)) .1, ap (λ (x : ℕ). x * h .s) (r .shape .wanted), y .few)
 
   -- store and marks are cleared, and the chunks in b offered
-  module _ (store₁ marks₁ b store marks : List ℕ) (cs : store₁ ≡ zeros (length (d .store))) (cm : marks₁ ≡ zeros (length (d .marks)))
-      (es : store ≡ walked h store₁ marks₁ b .store) (em : marks ≡ walked h store₁ marks₁ b .marks) where
+  module _ (store₁ marks₁ b store marks : List ℕ) (t₀ t : Tallies) (end : ℕ) (cs : store₁ ≡ zeros (length (d .store))) (cm : marks₁ ≡ zeros (length (d .marks)))
+      (ct : t₀ ≡ noTallies) (e : walkOf store marks t end ≡ walkOver h (sessionOf store₁ marks₁ t₀) b) where
     abbrev whole : Session
-    whole = walked h (zeros ((h .n + h .m) * h .s)) (zeros (h .n + h .m)) b
+    whole = walkOver h (blank h) b .session
 
-    from-zeros : walked h store₁ marks₁ b ≡ whole
-    from-zeros = rw (cs, cm, y .store-long, y .marks-long)
+    from-blank : sessionOf store₁ marks₁ t₀ ≡ blank h
+    from-blank = rw (cs, cm, ct, y .store-long, y .marks-long)
+
+    is-whole : sessionOf store marks t ≡ whole
+    is-whole = ap (λ (w : Walk). w .session) e ∙ ap (λ (x : Session). walkOver h x b .session) from-blank
 
     is-store : store ≡ whole .store
-    is-store = es ∙ ap (λ (x : Session). x .store) from-zeros
+    is-store = ap (λ (x : Session). x .store) is-whole
 
     is-marks : marks ≡ whole .marks
-    is-marks = em ∙ ap (λ (x : Session). x .marks) from-zeros
+    is-marks = ap (λ (x : Session). x .marks) is-whole
 
-    pub ready-walked : Ready h (record { store = store; marks = marks; scratch = d .scratch; numbers = d .numbers; content = d .content; bounds = d .bounds }) out
+    whole-lent : sessionWrong h whole ≡ false
+    unfolding walkOver
+    whole-lent = all-lent h (blank h) (chunksOf h b) (blank-right h (y .shape) .lent)
+
+    pub ready-walked : Ready h (deskOf store marks (d .scratch) (d .numbers) (d .content) (d .bounds)) out
         × (lentWrong (h .size) (h .n) (h .m) (h .s) store marks ≡ false)
     ready-walked =
-        let w = walked-lent h (zeros ((h .n + h .m) * h .s)) (zeros (h .n + h .m)) b (blank-right h (y .shape) .lent) in
-        let l : lentWrong (h .size) (h .n) (h .m) (h .s) store marks ≡ false = rw (is-store, is-marks) w in
+        let l : lentWrong (h .size) (h .n) (h .m) (h .s) store marks ≡ false = rw (is-store, is-marks) whole-lent in
         let r = right-lent (h .size) (h .n) (h .m) (h .s) store marks l in (
           record {
             shape = y .shape;
@@ -182,15 +182,15 @@ module _ (h : Head) (d : Desk) (out : List ℕ) (y : Ready h d out) where
           l,
         )
 
-    pub walked-printed : (r : ℕ) (after : List ℕ) → Printed r out after (sessionText h (untold store marks)) → Printed r out after (sessionText h whole)
+    pub walked-printed : (r : ℕ) (after : List ℕ) → Printed r out after (sessionText h (sessionOf store marks noTallies)) → Printed r out after (sessionText h whole)
     unfolding sessionText lastWord
     walked-printed r after p = rw (is-store, is-marks) at p
 
 -- ---- the text
 
 pub report-printed : (h : Head) (store marks : List ℕ) (held barred : ℕ) (bs : List ℕ) (last : LastWord) → held ≡ heldCount marks → barred ≡ barredCount marks
-    → bs ≡ bounds (ranges (missing (h .n) marks)) → wordOf last ≡ lastWord h (untold store marks) → (r : ℕ) (before after : List ℕ)
-    → Printed r before after (startText (h .uuid) (h .n) (h .m) (h .size) (h .s) held barred ++ boundsLines bs ++ line (wordOf last))
-    → Printed r before after (sessionText h (untold store marks))
+    → bs ≡ boundsFor h marks → wordOf last ≡ lastWord h (sessionOf store marks noTallies) → (r : ℕ) (before after : List ℕ)
+    → Printed r before after (sessionLines (h .uuid) (h .n) (h .m) (h .size) (h .s) held barred bs last)
+    → Printed r before after (sessionText h (sessionOf store marks noTallies))
 unfolding sessionText
 report-printed h store marks held barred bs last eh eb es ew r before after p = rw (eh, eb, es, bounds-lines (ranges (missing (h .n) marks)), ew) at p

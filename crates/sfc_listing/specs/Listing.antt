@@ -1,20 +1,20 @@
 -- What the program prints for a file (document 01, "Resend note and listing"), and the call that makes it. Assumes nothing:
 -- these are definitions.
-use Prim.Native.Nat.{ℕ, zero, suc, _+_, _-_, _*_}
+use Prim.Native.Nat.{ℕ, _+_, _-_, _*_}
 use mathlib.Core.Bool.{Bool, cond, not, _||_}
 use mathlib.Core.List.{List, [], _∷_, _++_}
 use lib.Dec.{ltb, eqb}
-use lib.ListN.{length, take, drop}
+use lib.ListN.{length}
 use Rattle.little.specs.Parts.{part, put}
 use Rattle.little.specs.Runs.{zeros}
-use Rattle.sfc.specs.answer.Numbers.{Check, checked, passes, numberOf}
+use Rattle.sfc.specs.answer.Numbers.{Check, checked, numberOf}
 use Rattle.sfc.specs.format.Header.{lengthField, regionOf, headOf, headerChecks}
-use Rattle.sfc.specs.format.Chunk.{chunkLength, lengthChecks}
-use Rattle.sfc.specs.session.Marks.{heldCount}
+use Rattle.sfc.specs.session.Marks.{heldCount, barredCount}
 use Rattle.sfc.specs.session.Session.{Session, blank}
-use Rattle.sfc.specs.session.History.{afterAll}
-use Rattle.sfc.specs.note.Missing.{Range, missing, ranges}
+use Rattle.sfc.specs.note.Missing.{missing}
+use Rattle.sfc.specs.note.Ranges.{Range, ranges}
 use Rattle.sfc.specs.give.HandOut.{contentChecks}
+use Rattle.sfc_walk.specs.Walk.{walkOver}
 use Rattle.sfc_listing.specs.Text.{text, decimal, hex, line}
 use Rattle.sfc.specs.declared.format.header.Head.{Head}
 use Rattle.sfc.specs.declared.answer.reason.Reason.{Reason}
@@ -27,21 +27,25 @@ use Rattle.sfc.specs.declared.answer.written.Written.the-variants.{Bytes, Refus
 unfoldable pub between : List ℕ → List ℕ
 between f = part f (lengthField f + 12) (length f - 64 - (lengthField f + 12))
 
--- the chunks that are offered, one behind the other from the front of b: what 30, 31 or 32 refuses is the end, and all else
--- is stepped over by its length, whatever the offer answers; the first argument only bounds their number
-unfoldable pub chunksIn : ℕ → ℕ → List ℕ → List (List ℕ)
-chunksIn zero s b = []
-chunksIn (suc most) s b = cond (passes (lengthChecks s b)) (take (chunkLength b) b ∷ chunksIn most s (drop (chunkLength b) b)) []
-
-unfoldable pub sessionOf : Head → List ℕ → Session
-sessionOf h f = afterAll h (blank h) (chunksIn (length (between f)) (h .s) (between f))
+-- the session after all chunks there were offered to a blank one, in order
+unfoldable pub sessionIn : Head → List ℕ → Session
+sessionIn h f = walkOver h (blank h) (between f) .session
 
 -- ---- the text
 
--- how many marks say barred
-unfoldable pub barredCount : List ℕ → ℕ
-barredCount [] = 0
-barredCount (k ∷ ks) = cond (eqb k 2) (suc (barredCount ks)) (barredCount ks)
+-- the three lines before the missing ones
+abbrev pub uuidLine : List ℕ → List ℕ
+uuidLine uuid = line (text "sfc uuid=" ++ hex uuid)
+
+abbrev pub shapeLine : ℕ → ℕ → ℕ → ℕ → List ℕ
+shapeLine n m size s =
+    line (text "blocks=" ++ decimal n ++ text " recovery=" ++ decimal m ++ text " size=" ++ decimal size ++ text " block=" ++ decimal s)
+
+abbrev pub countsLine : ℕ → ℕ → List ℕ
+countsLine held barred = line (text "held=" ++ decimal held ++ text " barred=" ++ decimal barred)
+
+unfoldable pub startText : List ℕ → ℕ → ℕ → ℕ → ℕ → ℕ → ℕ → List ℕ
+startText uuid n m size s held barred = uuidLine uuid ++ shapeLine n m size s ++ countsLine held barred
 
 abbrev pub missingLine : Range → List ℕ
 missingLine r = line (text "missing " ++ decimal (r .first) ++ text "-" ++ decimal (r .last))
@@ -54,13 +58,6 @@ missingLines (r ∷ rs) = missingLine r ++ missingLines rs
 unfoldable pub lastWord : Head → Session → List ℕ
 lastWord h x =
     checked (contentChecks h (x .store) (x .marks)) (λ (r : Reason). cond (eqb (numberOf r) 51) (text "hash differs") (text "incomplete")) (text "complete")
-
--- the lines before the missing ones
-unfoldable pub startText : List ℕ → ℕ → ℕ → ℕ → ℕ → ℕ → ℕ → List ℕ
-startText uuid n m size s held barred =
-    line (text "sfc uuid=" ++ hex uuid)
-    ++ line (text "blocks=" ++ decimal n ++ text " recovery=" ++ decimal m ++ text " size=" ++ decimal size ++ text " block=" ++ decimal s)
-    ++ line (text "held=" ++ decimal held ++ text " barred=" ++ decimal barred)
 
 unfoldable pub sessionText : Head → Session → List ℕ
 sessionText h x =
@@ -76,14 +73,14 @@ unfoldable pub refusedText : ℕ → List ℕ
 refusedText number = line (text "refused " ++ decimal number)
 
 abbrev pub listingFor : Head → List ℕ → List ℕ
-listingFor h f = checked (programChecks h f) (λ (r : Reason). refusedText (numberOf r)) (sessionText h (sessionOf h f))
+listingFor h f = checked (programChecks h f) (λ (r : Reason). refusedText (numberOf r)) (sessionText h (sessionIn h f))
 
 unfoldable pub listingOf : List ℕ → List ℕ
 listingOf f = listingFor (headOf (regionOf f)) f
 
 -- ---- the call
 
--- what is lent beside the output: store, marks, scratch and its numbers, the content, and numbers for the missing ranges
+-- what is lent beside the output: store, marks, scratch and its numbers, the content, first and last of each missing range
 pub record Desk : Type 0 where
   pub store : List ℕ
   pub marks : List ℕ
@@ -92,11 +89,19 @@ pub record Desk : Type 0 where
   pub content : List ℕ
   pub bounds : List ℕ
 
+abbrev pub deskOf : List ℕ → List ℕ → List ℕ → List ℕ → List ℕ → List ℕ → Desk
+deskOf store marks scratch numbers content bounds =
+    record { store = store; marks = marks; scratch = scratch; numbers = numbers; content = content; bounds = bounds }
+
 -- 71: enough for the program's limit, to the byte
-unfoldable pub deskWrong : Desk → Bool
+unfoldable pub lengthsWrong : ℕ → ℕ → ℕ → ℕ → ℕ → ℕ → Bool
+lengthsWrong store marks scratch numbers content bounds =
+    not (eqb store 32768) || not (eqb marks 1056) || not (eqb scratch 32768) || not (eqb numbers 1024) || not (eqb content 32768)
+    || not (eqb bounds 1024)
+
+abbrev pub deskWrong : Desk → Bool
 deskWrong d =
-    not (eqb (length (d .store)) 32768) || not (eqb (length (d .marks)) 1056) || not (eqb (length (d .scratch)) 32768)
-    || not (eqb (length (d .numbers)) 1024) || not (eqb (length (d .content)) 32768) || not (eqb (length (d .bounds)) 1024)
+    lengthsWrong (length (d .store)) (length (d .marks)) (length (d .scratch)) (length (d .numbers)) (length (d .content)) (length (d .bounds))
 
 -- it is left as zeros
 unfoldable pub cleared : Desk → Desk
@@ -121,6 +126,9 @@ pub record Listed : Type 0 where
   pub answer : Written
   pub desk : Desk
   pub output : List ℕ
+
+abbrev pub listedOf : Written → Desk → List ℕ → Listed
+listedOf answer desk output = record { answer = answer; desk = desk; output = output }
 
 unfoldable pub listed : List ℕ → Desk → List ℕ → Listed
 listed f d out = record {

@@ -1,12 +1,11 @@
-// The listing's text, piece by piece: each piece is put at a place of the output, and the place behind it comes back.
+// The listing's text, piece by piece: each piece is put at a place of the output, and the place after it comes back.
 ghost use mathlib.Core.Path.{_≡_};
 ghost use mathlib.Core.List.{_++_};
 ghost use Prim.Native.Nat.{_+_, _*_, _%_, _<_, _≤_};
 ghost use lib.ListN.{length};
-ghost use Rattle.little.specs.Parts.{put};
 ghost use Rattle.sfc_listing.specs.Text.{decimal, hexDigit, hex, line};
-ghost use Rattle.sfc_listing.specs.Listing.{startText, refusedText};
-ghost use Rattle.sfc_listing.specs.Lines.{wordOf, uuidLine, shapeLine, countsLine, rangeLine, boundsLines, Appended};
+ghost use Rattle.sfc_listing.specs.Listing.{uuidLine, shapeLine, countsLine, refusedText};
+ghost use Rattle.sfc_listing.specs.Lines.{wordOf, rangeLine, boundsLines, sessionLines, Appended, Printed};
 
 // How the hand-out ends.
 pub(crate) enum LastWord {
@@ -67,21 +66,21 @@ fn put_hex(b: &[u8], out: &mut [u8], at: usize) -> usize
     to
 }
 
-// A number behind the text that names it.
-fn put_number(name: &[u8], v: u64, out: &mut [u8], at: usize) -> usize
+// A value after the text that names it.
+fn put_value(name: &[u8], v: u64, out: &mut [u8], at: usize) -> usize
     requires { ⌜ at + (length (now name) + 20) ≤ length (now out) ⌝ }
     ensures { λ r. ⌜ Appended (length (now (name .entry)) + 20) (now (out .entry)) at (now (name .entry) ++ decimal v) r (now (out .exit)) ⌝ }
 {
-    let behind = put_text(name, out, at);
-    put_decimal(v, out, behind)
+    let after = put_text(name, out, at);
+    put_decimal(v, out, after)
 }
 
 fn put_uuid(uuid: [u8; 16], out: &mut [u8], at: usize) -> usize
     requires { ⌜ at + 42 ≤ length (now out) ⌝ }
     ensures { λ r. ⌜ Appended 42 (now (out .entry)) at (uuidLine uuid) r (now (out .exit)) ⌝ }
 {
-    let behind = put_text(b"sfc uuid=", out, at);
-    let end = put_hex(&uuid, out, behind);
+    let after = put_text(b"sfc uuid=", out, at);
+    let end = put_hex(&uuid, out, after);
     put_text(b"\n", out, end)
 }
 
@@ -89,10 +88,10 @@ fn put_shape(n: u32, m: u32, size: u64, s: u32, out: &mut [u8], at: usize) -> us
     requires { ⌜ at + 111 ≤ length (now out) ⌝ }
     ensures { λ r. ⌜ Appended 111 (now (out .entry)) at (shapeLine n m size s) r (now (out .exit)) ⌝ }
 {
-    let recovery = put_number(b"blocks=", n as u64, out, at);
-    let content = put_number(b" recovery=", m as u64, out, recovery);
-    let block = put_number(b" size=", size, out, content);
-    let end = put_number(b" block=", s as u64, out, block);
+    let recovery = put_value(b"blocks=", n as u64, out, at);
+    let content = put_value(b" recovery=", m as u64, out, recovery);
+    let block = put_value(b" size=", size, out, content);
+    let end = put_value(b" block=", s as u64, out, block);
     put_text(b"\n", out, end)
 }
 
@@ -100,8 +99,8 @@ fn put_counts(held: usize, barred: usize, out: &mut [u8], at: usize) -> usize
     requires { ⌜ at + 54 ≤ length (now out) ⌝ }
     ensures { λ r. ⌜ Appended 54 (now (out .entry)) at (countsLine held barred) r (now (out .exit)) ⌝ }
 {
-    let behind = put_number(b"held=", held as u64, out, at);
-    let end = put_number(b" barred=", barred as u64, out, behind);
+    let after = put_value(b"held=", held as u64, out, at);
+    let end = put_value(b" barred=", barred as u64, out, after);
     put_text(b"\n", out, end)
 }
 
@@ -109,8 +108,8 @@ fn put_range(first: u32, last: u32, out: &mut [u8], at: usize) -> usize
     requires { ⌜ at + 50 ≤ length (now out) ⌝ }
     ensures { λ r. ⌜ Appended 50 (now (out .entry)) at (rangeLine first last) r (now (out .exit)) ⌝ }
 {
-    let behind = put_number(b"missing ", first as u64, out, at);
-    let end = put_number(b"-", last as u64, out, behind);
+    let after = put_value(b"missing ", first as u64, out, at);
+    let end = put_value(b"-", last as u64, out, after);
     put_text(b"\n", out, end)
 }
 
@@ -141,13 +140,13 @@ fn put_word(last: LastWord, out: &mut [u8], at: usize) -> usize
 // The one line of a file that is refused.
 pub(crate) fn put_refused(number: u8, out: &mut [u8]) -> usize
     requires { ⌜ 32768 ≤ length (now out) ⌝ }
-    ensures { λ r. ⌜ (r ≡ length (refusedText number)) × (now (out .exit) ≡ put (now (out .entry)) 0 (refusedText number)) ⌝ }
+    ensures { λ r. ⌜ Printed r (now (out .entry)) (now (out .exit)) (refusedText number) ⌝ }
 {
-    let end = put_number(b"refused ", number as u64, out, 0);
+    let end = put_value(b"refused ", number as u64, out, 0);
     put_text(b"\n", out, end)
 }
 
-// The lines of a session; `bounds` has first and last of each missing range, one behind the other. There is room: 512 lines
+// The lines of a session; `bounds` has first and last of each missing range, one after the other. There is room: 512 lines
 // of at most 50 bytes each, and 220 more.
 pub(crate) fn put_session(
     uuid: [u8; 16],
@@ -162,7 +161,7 @@ pub(crate) fn put_session(
     out: &mut [u8],
 ) -> usize
     requires { ⌜ (32768 ≤ length (now out)) × (length (now bounds) ≤ 1024) × (length (now bounds) % 2 ≡ 0) ⌝ }
-    ensures { λ r. ⌜ (r ≡ length (startText uuid n m size s held barred ++ boundsLines (now (bounds .entry)) ++ line (wordOf last))) × (now (out .exit) ≡ put (now (out .entry)) 0 (startText uuid n m size s held barred ++ boundsLines (now (bounds .entry)) ++ line (wordOf last))) ⌝ }
+    ensures { λ r. ⌜ Printed r (now (out .entry)) (now (out .exit)) (sessionLines uuid n m size s held barred (now (bounds .entry)) last) ⌝ }
 {
     let shape = put_uuid(uuid, out, 0);
     let counts = put_shape(n, m, size, s, out, shape);

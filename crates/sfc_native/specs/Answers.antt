@@ -1,10 +1,11 @@
 -- The numbers under which the answers of a hand-out and of a writer go out. Assumes nothing: these are definitions.
 use Prim.Native.Nat.{ℕ}
 use mathlib.Core.List.{List}
-use Rattle.sfc.specs.answer.Numbers.{numberOf, Answered}
+use Rattle.sfc.specs.answer.Numbers.{numberOf, Answered, answered}
 use Rattle.sfc.specs.format.Header.{readHeader}
 use Rattle.sfc.specs.give.HandOut.{Rebuilding, handOut}
 use Rattle.sfc.specs.session.Lent.{Lent}
+use Rattle.sfc.specs.writing.Writer.{Input, inputOf}
 use Rattle.sfc.specs.declared.format.header.Head.{Head}
 use Rattle.sfc.specs.declared.answer.reason.Checked.{Checked}
 use Rattle.sfc.specs.declared.answer.reason.Checked.the-variants.{Good, Refused}
@@ -34,4 +35,9 @@ lengthFor (Written.Bytes length) = length
 lengthFor (Written.Refused reason) = numberOf reason
 
 abbrev pub measured : Answered Written → Answered ℕ
-measured a = record { answer = lengthFor (a .answer); output = a .output }
+measured a = answered (lengthFor (a .answer)) (a .output)
+
+-- what the writer is handed, with the facts of the file one by one
+abbrev pub inputFrom : ℕ → ℕ → List ℕ → ℕ → ℕ → ℕ → List ℕ → List ℕ → List ℕ → List ℕ → Input
+inputFrom s m uuid time format flags content name priority fields =
+    inputOf (record { s = s; m = m; uuid = uuid; time = time; format = format; flags = flags }) content name priority fields

@@ -7,12 +7,12 @@ use sfc::hand_out;
 use sfc::number_of;
 use sfc::read_header;
 use sfc::write;
-ghost use Prim.Native.Nat.{ℕ};
 ghost use mathlib.Core.Path.{_≡_};
-ghost use Rattle.sfc.specs.give.HandOut.{Rebuilding};
-ghost use Rattle.sfc.specs.answer.Numbers.{Answered};
-ghost use Rattle.sfc.specs.writing.Writer.{inputOf, writeFile};
-ghost use Rattle.sfc_native.specs.Answers.{numberFor, handOutOf, lengthFor, measured};
+ghost use Rattle.sfc.specs.give.HandOut.{rebuilt};
+ghost use Rattle.sfc.specs.session.Lent.{lentOf};
+ghost use Rattle.sfc.specs.answer.Numbers.{answered};
+ghost use Rattle.sfc.specs.writing.Writer.{writeFile};
+ghost use Rattle.sfc_native.specs.Answers.{numberFor, handOutOf, lengthFor, measured, inputFrom};
 
 fn number(handed: HandedOut) -> u8
     ensures { λ r. ⌜ r ≡ numberFor handed ⌝ }
@@ -33,7 +33,7 @@ pub extern "C" fn sfc_hand_out(
     numbers: &mut [u16],
     out: &mut [u8],
 ) -> u8
-    ensures { λ r. ⌜ _≡_ {A = Rebuilding ℕ} (record { answer = r; lent = record { scratch = now (scratch .exit); numbers = now (numbers .exit); output = now (out .exit) } }) (handOutOf (now (file .entry)) (now (store .entry)) (now (marks .entry)) (record { scratch = now (scratch .entry); numbers = now (numbers .entry); output = now (out .entry) })) ⌝ }
+    ensures { λ r. ⌜ rebuilt r (now (scratch .exit)) (now (numbers .exit)) (now (out .exit)) ≡ handOutOf (now (file .entry)) (now (store .entry)) (now (marks .entry)) (lentOf (now (scratch .entry)) (now (numbers .entry)) (now (out .entry))) ⌝ }
 {
     let read = read_header(file);
     let verdict = read.verdict;
@@ -70,7 +70,7 @@ pub extern "C" fn sfc_write(
     fields: &[u8],
     out: &mut [u8],
 ) -> u64
-    ensures { λ r. ⌜ _≡_ {A = Answered ℕ} (record { answer = r; output = now (out .exit) }) (measured (writeFile (inputOf (record { s = s; m = m; uuid = now (uuid .entry); time = time; format = format; flags = flags }) (now (content .entry)) (now (name .entry)) (now (priority .entry)) (now (fields .entry))) (now (out .entry)))) ⌝ }
+    ensures { λ r. ⌜ answered r (now (out .exit)) ≡ measured (writeFile (inputFrom s m (now (uuid .entry)) time format flags (now (content .entry)) (now (name .entry)) (now (priority .entry)) (now (fields .entry))) (now (out .entry))) ⌝ }
 {
     let facts = FileFacts {
         s,

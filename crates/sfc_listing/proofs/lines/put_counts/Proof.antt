@@ -10,7 +10,7 @@ unfolding text
 returns c =
     let s = c .before .before .before .before .before .before .before .before .before .before .before .before .before .before .before .before in
     let a = s .args in
-    counts-made (a .held) (a .barred) (s .pre) (c .before .before .before .before .before .before .before .before .before .before .before .before .put-number .ensures) (c .before .before .before .before .before .before .before .put-number2 .ensures) (c .before .before .put-text .ensures)
+    counts-made (a .held) (a .barred) (s .pre) (c .before .before .before .before .before .before .before .before .before .before .before .before .put-value .ensures) (c .before .before .before .before .before .before .before .put-value2 .ensures) (c .before .before .put-text .ensures)
 
 pub put-counts-spec : {M : Type 1} → statement M
 put-counts-spec =

@@ -10,7 +10,7 @@ unfolding text
 returns c =
     let s = c .before .before .before .before .before .before .before .before .before .before .before .before .before .before .before .before in
     let a = s .args in
-    range-made (a .first) (a .last) (s .pre) (c .before .before .before .before .before .before .before .before .before .before .before .before .put-number .ensures) (c .before .before .before .before .before .before .before .put-number2 .ensures) (c .before .before .put-text .ensures)
+    range-made (a .first) (a .last) (s .pre) (c .before .before .before .before .before .before .before .before .before .before .before .before .put-value .ensures) (c .before .before .before .before .before .before .before .put-value2 .ensures) (c .before .before .put-text .ensures)
 
 pub put-range-spec : {M : Type 1} → statement M
 put-range-spec =

@@ -9,7 +9,7 @@ returns : tie.Need-returns
 unfolding text
 returns c =
     let s = c .before .before .before .before .before .before .before .before .before .before .before in
-    refused-made (s .args .number) (s .pre) (c .before .before .before .before .before .before .before .put-number .ensures) (c .before .before .put-text .ensures)
+    refused-made (s .args .number) (s .pre) (c .before .before .before .before .before .before .before .put-value .ensures) (c .before .before .put-text .ensures)
 
 pub put-refused-spec : {M : Type 1} → statement M
 put-refused-spec =

@@ -10,7 +10,7 @@ unfolding text
 returns c =
     let s = c .before .before .before .before .before .before .before .before .before .before .before .before .before .before .before .before .before .before .before .before .before .before .before .before .before .before in
     let a = s .args in
-    shape-made (a .n) (a .m) (a .size) (a .s) (s .pre) (c .before .before .before .before .before .before .before .before .before .before .before .before .before .before .before .before .before .before .before .before .before .before .put-number .ensures) (c .before .before .before .before .before .before .before .before .before .before .before .before .before .before .before .before .before .put-number2 .ensures) (c .before .before .before .before .before .before .before .before .before .before .before .before .put-number3 .ensures) (c .before .before .before .before .before .before .before .put-number4 .ensures) (c .before .before .put-text .ensures)
+    shape-made (a .n) (a .m) (a .size) (a .s) (s .pre) (c .before .before .before .before .before .before .before .before .before .before .before .before .before .before .before .before .before .before .before .before .before .before .put-value .ensures) (c .before .before .before .before .before .before .before .before .before .before .before .before .before .before .before .before .before .put-value2 .ensures) (c .before .before .before .before .before .before .before .before .before .before .before .before .put-value3 .ensures) (c .before .before .before .before .before .before .before .put-value4 .ensures) (c .before .before .put-text .ensures)
 
 pub put-shape-spec : {M : Type 1} → statement M
 put-shape-spec =

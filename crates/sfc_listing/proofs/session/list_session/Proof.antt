@@ -1,14 +1,37 @@
 -- `sfc_listing::session::list_session` meets its contract: from zeros, over all chunks, to the report. Assumes nothing.
+use mathlib.Core.Path.{_∙_}
+use Rattle.sfc_listing.specs.Listing.{deskOf}
 use Rattle.sfc_listing.proofs.ReportLaws.{ready-walked, walked-printed}
 use borrow.Author.Needs.{needs}
 use Rattle.sfc_listing.proofs.session.list_session.Statement.{statement}
 use Rattle.sfc_listing.proofs.session.list_session.Tie as tie
 
 report-requires : tie.Need-report-requires
-report-requires c κs = let a = c .before .before .before .before .before .before .before .before .before .before .before .before .before .before .before .before .before .before .before .before .before .before .before .before .before .before .before .before .before .before .args in ready-walked (a .h) (record { store = a .store .now; marks = a .marks .now; scratch = a .scratch .now; numbers = a .numbers .now; content = a .content .now; bounds = a .bounds .now }) (a .out .now) (c .before .before .before .before .before .before .before .before .before .before .before .before .before .before .before .before .before .before .before .before .before .before .before .before .before .before .before .before .before .before .pre) _ _ (a .chunks .now) _ _ (c .before .before .before .before .before .before .before .before .before .before .before .before .before .before .before .before .before .before .before .before .clear .ensures) (c .before .before .before .before .before .before .before .before .before .before .before .before .before .before .before .before .clear2 .ensures) (c .before .before .before .before .before .before .before .before .before .before .before .offer-chunks .ensures .0) (c .before .before .before .before .before .before .before .before .before .before .before .offer-chunks .ensures .1)
+report-requires c κs =
+    let s = c .before .before .before .before .before .before .before .before .before .before .before .before .before .before .before .before .before .before .before .before .before .before .before .before .before .before .before .before .before .before .before in
+    let a = s .args in
+    ready-walked (a .h) (deskOf (a .store .now) (a .marks .now) (a .scratch .now) (a .numbers .now) (a .content .now) (a .bounds .now)) (a .out .now) (s .pre)
+    _ _ (a .chunks .now) _ _ _ _ _
+    (c .before .before .before .before .before .before .before .before .before .before .before .before .before .before .before .before .before .before .before .before .before .clear8 .ensures)
+    (c .before .before .before .before .before .before .before .before .before .before .before .before .before .before .before .before .before .clear82 .ensures) (c .before .before .before .before .before .before .before .before .before .before .before .before .before .before .new .ensures)
+    (c .before .before .before .before .before .before .before .before .before .before .before .offer-chunks .ensures)
+
+same-length : tie.Need-same-length
+same-length c = c .before .before .before .before .before .before .before .before .before .before .before .before .before .before .before .before .before .before .before .before .before .before .offer-chunks .kept .1 .1 .0 ∙ c .before .before .before .before .before .before .before .before .before .before .before .before .before .before .before .before .before .before .before .before .before .before .before .before .before .before .before .before .before .before .before .before .clear8 .kept .0
+
+same-length-2 : tie.Need-same-length-2
+same-length-2 c = c .before .before .before .before .before .before .before .before .before .before .before .before .before .before .before .before .before .before .before .before .before .before .offer-chunks .kept .1 .1 .1 .0 ∙ c .before .before .before .before .before .before .before .before .before .before .before .before .before .before .before .before .before .before .before .before .before .before .before .before .before .before .before .before .clear82 .kept .0
 
 returns : tie.Need-returns
-returns c = let a = c .before .before .before .before .before .before .before .before .before .before .before .before .before .before .before .before .before .before .before .before .before .before .before .before .before .before .before .before .before .before .before .before .before .before .before .before .before .before .before .before .before .args in walked-printed (a .h) (record { store = a .store .now; marks = a .marks .now; scratch = a .scratch .now; numbers = a .numbers .now; content = a .content .now; bounds = a .bounds .now }) (a .out .now) (c .before .before .before .before .before .before .before .before .before .before .before .before .before .before .before .before .before .before .before .before .before .before .before .before .before .before .before .before .before .before .before .before .before .before .before .before .before .before .before .before .before .pre) _ _ (a .chunks .now) _ _ (c .before .before .before .before .before .before .before .before .before .before .before .before .before .before .before .before .before .before .before .before .before .before .before .before .before .before .before .before .before .before .before .clear .ensures) (c .before .before .before .before .before .before .before .before .before .before .before .before .before .before .before .before .before .before .before .before .before .before .before .before .before .before .before .clear2 .ensures) (c .before .before .before .before .before .before .before .before .before .before .before .before .before .before .before .before .before .before .before .before .before .before .offer-chunks .ensures .0) (c .before .before .before .before .before .before .before .before .before .before .before .before .before .before .before .before .before .before .before .before .before .before .offer-chunks .ensures .1) _ _ (c .before .before .before .before .before .before .before .before .before .before .report .ensures)
+returns c =
+    let s = c .before .before .before .before .before .before .before .before .before .before .before .before .before .before .before .before .before .before .before .before .before .before .before .before .before .before .before .before .before .before .before .before .before .before .before .before .before .before .before .before .before .before in
+    let a = s .args in
+    walked-printed (a .h) (deskOf (a .store .now) (a .marks .now) (a .scratch .now) (a .numbers .now) (a .content .now) (a .bounds .now)) (a .out .now) (s .pre)
+    _ _ (a .chunks .now) _ _ _ _ _
+    (c .before .before .before .before .before .before .before .before .before .before .before .before .before .before .before .before .before .before .before .before .before .before .before .before .before .before .before .before .before .before .before .before .clear8 .ensures)
+    (c .before .before .before .before .before .before .before .before .before .before .before .before .before .before .before .before .before .before .before .before .before .before .before .before .before .before .before .before .clear82 .ensures) (c .before .before .before .before .before .before .before .before .before .before .before .before .before .before .before .before .before .before .before .before .before .before .before .before .before .new .ensures)
+    (c .before .before .before .before .before .before .before .before .before .before .before .before .before .before .before .before .before .before .before .before .before .before .offer-chunks .ensures) _ _
+    (c .before .before .before .before .before .before .before .before .before .before .report .ensures)
 
 pub list-session-spec : {M : Type 1} → statement M
 list-session-spec =
@@ -17,9 +40,10 @@ list-session-spec =
     (λ c κs. search needs)
     (λ c κs. search needs)
     (λ c κs. search needs)
+    (λ c κs. search needs)
     report-requires
-    (λ c. search needs)
-    (λ c. search needs)
+    same-length
+    same-length-2
     (λ c. search needs)
     (λ c. search needs)
     (λ c. search needs)

@@ -1,11 +1,12 @@
--- `sfc_listing::listing::list_accepted` meets its contract: past the limit, or the session in parts of the memory. Assumes nothing.
+-- `sfc_listing::file::list_accepted` meets its contract: past the limit, or the session in parts of the memory. Assumes nothing.
 use mathlib.Core.Path.{sym}
 use native.Mathlib.Omega.{arith}
 use lib.Seq.{length-take-le}
-use Rattle.sfc_listing.proofs.FileLaws.{printed-as, blocks-few, trailer-behind, limit-text, session-text, desk-holds, ready}
+use Rattle.sfc_listing.specs.Listing.{deskOf}
+use Rattle.sfc_listing.proofs.FileLaws.{printed-as, blocks-few, trailer-after, limit-text, session-text, desk-holds, ready}
 use borrow.Author.Needs.{needs}
-use Rattle.sfc_listing.proofs.listing.list_accepted.Statement.{statement}
-use Rattle.sfc_listing.proofs.listing.list_accepted.Tie as tie
+use Rattle.sfc_listing.proofs.file.list_accepted.Statement.{statement}
+use Rattle.sfc_listing.proofs.file.list_accepted.Tie as tie
 
 mul-bytes : tie.Need-mul-bytes
 mul-bytes c =
@@ -31,61 +32,61 @@ sub-end : tie.Need-sub-end
 sub-end c =
     let a = c .before .before .before .before .before .before .before .before .before .before .before .before .before .before .before .args in
     let p = c .before .before .before .before .before .before .before .before .before .before .before .before .before .before .before .pre in
-    omega (arith, trailer-behind (a .h) (a .file .now) (p .0))
+    omega (arith, trailer-after (a .h) (a .file .now) (p .0))
 
 sub-list-session : tie.Need-sub-list-session
 sub-list-session c =
     let a = c .before .before .before .before .before .before .before .before .before .before .before .before .before .before .before .args in
     let p = c .before .before .before .before .before .before .before .before .before .before .before .before .before .before .before .pre in
-    omega (arith, trailer-behind (a .h) (a .file .now) (p .0), c .read32 .ensures)
+    omega (arith, trailer-after (a .h) (a .file .now) (p .0), c .read32 .ensures)
 
 part-list-session-start : tie.Need-part-list-session-start
 part-list-session-start c =
     let a = c .before .before .before .before .before .before .before .before .before .before .before .before .before .before .before .args in
     let p = c .before .before .before .before .before .before .before .before .before .before .before .before .before .before .before .pre in
-    omega (arith, trailer-behind (a .h) (a .file .now) (p .0), c .read32 .ensures)
+    omega (arith, trailer-after (a .h) (a .file .now) (p .0), c .read32 .ensures)
 
 slice-relend-prefix-list-session : tie.Need-slice-relend-prefix-list-session
 slice-relend-prefix-list-session c =
     let a = c .before .before .before .before .before .before .before .before .before .before .before .before .before .before .before .before .args in
     let p = c .before .before .before .before .before .before .before .before .before .before .before .before .before .before .before .before .pre in
-    desk-holds (a .h) (a .file .now) (p .0) (c .before .before .before .before .if1 .left) (record { store = a .store .now; marks = a .marks .now; scratch = a .scratch .now; numbers = a .numbers .now; content = a .content .now; bounds = a .bounds .now }) (p .1) .0
+    desk-holds (a .h) (a .file .now) (p .0) (c .before .before .before .before .if1 .left) (deskOf (a .store .now) (a .marks .now) (a .scratch .now) (a .numbers .now) (a .content .now) (a .bounds .now)) (p .1) .0
 
 slice-aggregate-list-session : tie.Need-slice-aggregate-list-session
 slice-aggregate-list-session c =
     let a = c .before .before .before .before .before .before .before .before .before .before .before .before .before .before .before .before .before .args in
     let p = c .before .before .before .before .before .before .before .before .before .before .before .before .before .before .before .before .before .pre in
-    sym (length-take-le _ _ (desk-holds (a .h) (a .file .now) (p .0) (c .before .before .before .before .before .if1 .left) (record { store = a .store .now; marks = a .marks .now; scratch = a .scratch .now; numbers = a .numbers .now; content = a .content .now; bounds = a .bounds .now }) (p .1) .0))
+    sym (length-take-le _ _ (desk-holds (a .h) (a .file .now) (p .0) (c .before .before .before .before .before .if1 .left) (deskOf (a .store .now) (a .marks .now) (a .scratch .now) (a .numbers .now) (a .content .now) (a .bounds .now)) (p .1) .0))
 
 slice-relend-prefix-list-session-2 : tie.Need-slice-relend-prefix-list-session-2
 slice-relend-prefix-list-session-2 c =
     let a = c .before .before .before .before .before .before .before .before .before .before .before .before .before .before .before .before .before .args in
     let p = c .before .before .before .before .before .before .before .before .before .before .before .before .before .before .before .before .before .pre in
-    desk-holds (a .h) (a .file .now) (p .0) (c .before .before .before .before .before .if1 .left) (record { store = a .store .now; marks = a .marks .now; scratch = a .scratch .now; numbers = a .numbers .now; content = a .content .now; bounds = a .bounds .now }) (p .1) .1
+    desk-holds (a .h) (a .file .now) (p .0) (c .before .before .before .before .before .if1 .left) (deskOf (a .store .now) (a .marks .now) (a .scratch .now) (a .numbers .now) (a .content .now) (a .bounds .now)) (p .1) .1
 
 slice-aggregate-list-session-2 : tie.Need-slice-aggregate-list-session-2
 slice-aggregate-list-session-2 c =
     let a = c .before .before .before .before .before .before .before .before .before .before .before .before .before .before .before .before .before .before .args in
     let p = c .before .before .before .before .before .before .before .before .before .before .before .before .before .before .before .before .before .before .pre in
-    sym (length-take-le _ _ (desk-holds (a .h) (a .file .now) (p .0) (c .before .before .before .before .before .before .if1 .left) (record { store = a .store .now; marks = a .marks .now; scratch = a .scratch .now; numbers = a .numbers .now; content = a .content .now; bounds = a .bounds .now }) (p .1) .1))
+    sym (length-take-le _ _ (desk-holds (a .h) (a .file .now) (p .0) (c .before .before .before .before .before .before .if1 .left) (deskOf (a .store .now) (a .marks .now) (a .scratch .now) (a .numbers .now) (a .content .now) (a .bounds .now)) (p .1) .1))
 
 slice-relend-prefix-list-session-3 : tie.Need-slice-relend-prefix-list-session-3
 slice-relend-prefix-list-session-3 c =
     let a = c .before .before .before .before .before .before .before .before .before .before .before .before .before .before .before .before .before .before .args in
     let p = c .before .before .before .before .before .before .before .before .before .before .before .before .before .before .before .before .before .before .pre in
-    desk-holds (a .h) (a .file .now) (p .0) (c .before .before .before .before .before .before .if1 .left) (record { store = a .store .now; marks = a .marks .now; scratch = a .scratch .now; numbers = a .numbers .now; content = a .content .now; bounds = a .bounds .now }) (p .1) .2
+    desk-holds (a .h) (a .file .now) (p .0) (c .before .before .before .before .before .before .if1 .left) (deskOf (a .store .now) (a .marks .now) (a .scratch .now) (a .numbers .now) (a .content .now) (a .bounds .now)) (p .1) .2
 
 slice-aggregate-list-session-3 : tie.Need-slice-aggregate-list-session-3
 slice-aggregate-list-session-3 c =
     let a = c .before .before .before .before .before .before .before .before .before .before .before .before .before .before .before .before .before .before .before .args in
     let p = c .before .before .before .before .before .before .before .before .before .before .before .before .before .before .before .before .before .before .before .pre in
-    sym (length-take-le _ _ (desk-holds (a .h) (a .file .now) (p .0) (c .before .before .before .before .before .before .before .if1 .left) (record { store = a .store .now; marks = a .marks .now; scratch = a .scratch .now; numbers = a .numbers .now; content = a .content .now; bounds = a .bounds .now }) (p .1) .2))
+    sym (length-take-le _ _ (desk-holds (a .h) (a .file .now) (p .0) (c .before .before .before .before .before .before .before .if1 .left) (deskOf (a .store .now) (a .marks .now) (a .scratch .now) (a .numbers .now) (a .content .now) (a .bounds .now)) (p .1) .2))
 
 list-session-requires : tie.Need-list-session-requires
 list-session-requires c κs =
     let a = c .before .before .before .before .before .before .before .before .before .before .before .before .before .before .before .before .before .before .before .before .before .before .before .args in
     let p = c .before .before .before .before .before .before .before .before .before .before .before .before .before .before .before .before .before .before .before .before .before .before .before .pre in
-    ready (a .h) (a .file .now) (p .0) (c .before .before .before .before .before .before .before .before .before .before .before .if1 .left) (record { store = a .store .now; marks = a .marks .now; scratch = a .scratch .now; numbers = a .numbers .now; content = a .content .now; bounds = a .bounds .now }) (p .1) (a .out .now) (p .2)
+    ready (a .h) (a .file .now) (p .0) (c .before .before .before .before .before .before .before .before .before .before .before .if1 .left) (deskOf (a .store .now) (a .marks .now) (a .scratch .now) (a .numbers .now) (a .content .now) (a .bounds .now)) (p .1) (a .out .now) (p .2)
 
 returns-2 : tie.Need-returns-2
 returns-2 c =

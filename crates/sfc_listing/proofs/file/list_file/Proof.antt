@@ -1,10 +1,10 @@
--- `sfc_listing::listing::list_file` meets its contract: too long, refused by its header, or accepted. Assumes nothing.
+-- `sfc_listing::file::list_file` meets its contract: too long, refused by its header, or accepted. Assumes nothing.
 use mathlib.Core.Path.{ap, _∙_}
 use Rattle.sfc_listing.specs.Listing.{refusedText}
 use Rattle.sfc_listing.proofs.FileLaws.{printed-as, listing-long, listing-refused, listing-accepted}
 use borrow.Author.Needs.{needs}
-use Rattle.sfc_listing.proofs.listing.list_file.Statement.{statement}
-use Rattle.sfc_listing.proofs.listing.list_file.Tie as tie
+use Rattle.sfc_listing.proofs.file.list_file.Statement.{statement}
+use Rattle.sfc_listing.proofs.file.list_file.Tie as tie
 
 returns : tie.Need-returns
 returns c = let a = c .before .before .before .before .before .before .before .before .before .before .before .before .before .args in printed-as _ _ _ (listing-long (a .file .now) (c .before .before .before .before .if1 .taken)) (c .before .before .put-refused .ensures)

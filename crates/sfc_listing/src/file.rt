@@ -1,5 +1,18 @@
-// The listing: what a file holds, as the lines of text that a program prints.
+// The listing of a file: what it holds, as the lines of text that a program prints.
 use crate::lines::put_refused;
+use crate::room::ABOVE_LIMITS;
+use crate::room::BLOCKS_MOST;
+use crate::room::BOUNDS;
+use crate::room::CONTENT;
+use crate::room::FILE_MOST;
+use crate::room::MARKS;
+use crate::room::NUMBERS;
+use crate::room::REGION_AT;
+use crate::room::REGION_LENGTH_AT;
+use crate::room::SCRATCH;
+use crate::room::STORE;
+use crate::room::TEXT;
+use crate::room::TRAILER;
 use crate::session::list_session;
 use sfc::Checked;
 use sfc::Head;
@@ -7,20 +20,17 @@ use sfc::Reason;
 use sfc::Written;
 use sfc::number_of;
 use sfc::read_header;
-use sfc::runs::clear;
-use sfc::runs::clear_indices;
-use sfc::runs::clear_numbers;
 ghost use mathlib.Core.Path.{_≡_};
-ghost use mathlib.Core.Bool.{false, not, _||_};
+ghost use mathlib.Core.Bool.{false};
 ghost use Prim.Native.Nat.{_≤_};
-ghost use lib.Dec.{eqb};
 ghost use lib.ListN.{length};
 ghost use Rattle.sfc.specs.format.Header.{acceptedHeader, readHeader};
-ghost use Rattle.sfc_listing.specs.Listing.{Desk, Listed, deskWrong, cleared, listingOf, listed};
-ghost use Rattle.sfc_listing.specs.Steps.{Printed, acceptedText};
+ghost use Rattle.sfc_listing.specs.Listing.{deskOf, lengthsWrong, deskWrong, cleared, listingOf, listedOf, listed};
+ghost use Rattle.sfc_listing.specs.Lines.{Printed};
+ghost use Rattle.sfc_listing.specs.Steps.{acceptedText};
 
-// 71
-fn is_desk_wrong(
+// 71: what is lent is not as long as the program's limits want it.
+fn are_lengths_wrong(
     store: usize,
     marks: usize,
     scratch: usize,
@@ -28,14 +38,14 @@ fn is_desk_wrong(
     content: usize,
     bounds: usize,
 ) -> bool
-    ensures { λ r. ⌜ r ≡ (not (eqb store 32768) || not (eqb marks 1056) || not (eqb scratch 32768) || not (eqb numbers 1024) || not (eqb content 32768) || not (eqb bounds 1024)) ⌝ }
+    ensures { λ r. ⌜ r ≡ lengthsWrong store marks scratch numbers content bounds ⌝ }
 {
-    (store != 32768)
-        | (marks != 1056)
-        | (scratch != 32768)
-        | (numbers != 1024)
-        | (content != 32768)
-        | (bounds != 1024)
+    (store != STORE)
+        | (marks != MARKS)
+        | (scratch != SCRATCH)
+        | (numbers != NUMBERS)
+        | (content != CONTENT)
+        | (bounds != BOUNDS)
 }
 
 // Zeros over all that is lent beside the output.
@@ -47,14 +57,14 @@ fn clear_desk(
     content: &mut [u8],
     bounds: &mut [u32],
 )
-    ensures { λ _. ⌜ _≡_ {A = Desk} (record { store = now (store .exit); marks = now (marks .exit); scratch = now (scratch .exit); numbers = now (numbers .exit); content = now (content .exit); bounds = now (bounds .exit) }) (cleared (record { store = now (store .entry); marks = now (marks .entry); scratch = now (scratch .entry); numbers = now (numbers .entry); content = now (content .entry); bounds = now (bounds .entry) })) ⌝ }
+    ensures { λ _. ⌜ deskOf (now (store .exit)) (now (marks .exit)) (now (scratch .exit)) (now (numbers .exit)) (now (content .exit)) (now (bounds .exit)) ≡ cleared (deskOf (now (store .entry)) (now (marks .entry)) (now (scratch .entry)) (now (numbers .entry)) (now (content .entry)) (now (bounds .entry))) ⌝ }
 {
-    clear(store);
-    clear(marks);
-    clear(scratch);
-    clear_numbers(numbers);
-    clear(content);
-    clear_indices(bounds);
+    little::clear8(store);
+    little::clear8(marks);
+    little::clear8(scratch);
+    little::clear16(numbers);
+    little::clear8(content);
+    little::clear32(bounds);
 }
 
 // The limit on the blocks, and the session in as much of the memory as the header wants.
@@ -69,17 +79,17 @@ fn list_accepted(
     bounds: &mut [u32],
     out: &mut [u8],
 ) -> usize
-    requires { ⌜ (readHeader (now file) ≡ acceptedHeader h) × (deskWrong (record { store = now store; marks = now marks; scratch = now scratch; numbers = now numbers; content = now content; bounds = now bounds }) ≡ false) × (32768 ≤ length (now out)) ⌝ }
+    requires { ⌜ (readHeader (now file) ≡ acceptedHeader h) × (deskWrong (deskOf (now store) (now marks) (now scratch) (now numbers) (now content) (now bounds)) ≡ false) × (32768 ≤ length (now out)) ⌝ }
     ensures { λ r. ⌜ Printed r (now (out .entry)) (now (out .exit)) (acceptedText h (now (file .entry))) ⌝ }
 {
     let blocks = h.n as usize + h.m as usize;
     let bytes = blocks * h.s as usize;
-    if 32768 < bytes {
-        return put_refused(15, out);
+    if BLOCKS_MOST < bytes {
+        return put_refused(ABOVE_LIMITS, out);
     }
     let rebuilt = h.m as usize * h.s as usize;
-    let from = little::read32(file, 8) as usize + 12;
-    let end = file.len() - 64;
+    let from = little::read32(file, REGION_LENGTH_AT) as usize + REGION_AT;
+    let end = file.len() - TRAILER;
     list_session(
         h,
         &file[from..end],
@@ -104,11 +114,11 @@ fn list_file(
     bounds: &mut [u32],
     out: &mut [u8],
 ) -> usize
-    requires { ⌜ (deskWrong (record { store = now store; marks = now marks; scratch = now scratch; numbers = now numbers; content = now content; bounds = now bounds }) ≡ false) × (32768 ≤ length (now out)) ⌝ }
+    requires { ⌜ (deskWrong (deskOf (now store) (now marks) (now scratch) (now numbers) (now content) (now bounds)) ≡ false) × (32768 ≤ length (now out)) ⌝ }
     ensures { λ r. ⌜ Printed r (now (out .entry)) (now (out .exit)) (listingOf (now (file .entry))) ⌝ }
 {
-    if 65536 < file.len() {
-        return put_refused(15, out);
+    if FILE_MOST < file.len() {
+        return put_refused(ABOVE_LIMITS, out);
     }
     let header = read_header(file);
     let verdict = header.verdict;
@@ -142,9 +152,9 @@ pub fn listing(
     bounds: &mut [u32],
     out: &mut [u8],
 ) -> Written
-    ensures { λ r. ⌜ _≡_ {A = Listed} (record { answer = r; desk = record { store = now (store .exit); marks = now (marks .exit); scratch = now (scratch .exit); numbers = now (numbers .exit); content = now (content .exit); bounds = now (bounds .exit) }; output = now (out .exit) }) (listed (now (file .entry)) (record { store = now (store .entry); marks = now (marks .entry); scratch = now (scratch .entry); numbers = now (numbers .entry); content = now (content .entry); bounds = now (bounds .entry) }) (now (out .entry))) ⌝ }
+    ensures { λ r. ⌜ listedOf r (deskOf (now (store .exit)) (now (marks .exit)) (now (scratch .exit)) (now (numbers .exit)) (now (content .exit)) (now (bounds .exit))) (now (out .exit)) ≡ listed (now (file .entry)) (deskOf (now (store .entry)) (now (marks .entry)) (now (scratch .entry)) (now (numbers .entry)) (now (content .entry)) (now (bounds .entry))) (now (out .entry)) ⌝ }
 {
-    if is_desk_wrong(
+    if are_lengths_wrong(
         store.len(),
         marks.len(),
         scratch.len(),
@@ -154,7 +164,7 @@ pub fn listing(
     ) {
         return Written::Refused(Reason::Lent);
     }
-    if out.len() < 32768 {
+    if out.len() < TEXT {
         return Written::Refused(Reason::OutputShort);
     }
     let length = list_file(file, store, marks, scratch, numbers, content, bounds, out);
