@@ -29,6 +29,7 @@ pub const HEADER_BYTES_SEALED: u8 = 32;
 pub const HEADER_LENGTHS: u8 = 33;
 pub const FIND_FIELD: u8 = 34;
 pub const SET_HEAD: u8 = 35;
+pub const LONG_HEADER: u8 = 36;
 pub const CHECK_CHUNK: u8 = 40;
 pub const CHUNK_BYTES: u8 = 41;
 pub const CHUNK_BYTES_SEALED: u8 = 42;
@@ -59,6 +60,8 @@ pub const LISTING: u8 = 75;
 /// The most bytes that a file has here, and a printed line.
 const ROOM: usize = 65_536;
 const LINE: usize = 4_096;
+/// The same of a file that is longer for one reading.
+const LONG_ROOM: usize = 65_613;
 /// The longest output of a hand-out, a block request or a writer that is shown byte by byte.
 const SHOWN: usize = 64;
 /// The most marks of a session.
@@ -113,7 +116,8 @@ pub fn seal_chunk(chunk: &mut [u8]) {
 
 fn print_head(head: &Head) {
     print!("good H={} uuid={}", head.header_length, hex(&head.uuid));
-    print!(" size={} format={} name={}", head.size, head.format, hex(&head.name));
+    // a name is followed by zeros up to its 255 bytes
+    print!(" size={} format={} name={} then zeros", head.size, head.format, hex(&head.name));
     print!(" hash={} N={} M={} S={}", hex(&head.hash), head.n, head.m, head.s);
     print!(" erasure={} compression={}", head.erasure, head.compression);
     println!(" flags={} P={}", head.flags, head.priorities);
@@ -241,8 +245,21 @@ impl Probe {
         }
     }
 
-    fn read(&mut self) {
-        match read_header(&self.file) {
+    /// Reads the header of a file with more bytes before its last 64, sealed.
+    fn read_long(&mut self, value: u8, count: usize) {
+        let mut long = vec![value; (self.file.len() + count).min(LONG_ROOM)];
+        if let Some(split) = self.file.len().checked_sub(64) {
+            let at = long.len() - 64;
+            put(&mut long, 0, &self.file[..split]);
+            put(&mut long, at, &self.file[split..]);
+        }
+        seal_header(&mut long);
+        self.keep(read_header(&long));
+    }
+
+    /// Prints what reading a header gave, and keeps an accepted one.
+    fn keep(&mut self, read: Result<Head, u8>) {
+        match read {
             Ok(head) => {
                 print_head(&head);
                 self.head = head;
@@ -406,7 +423,8 @@ impl Probe {
     fn reader_frame(&mut self, opcode: u8, small: u8, a: usize, b: usize) {
         let part = clipped(self.file.len(), a, b);
         match opcode {
-            READ_HEADER => self.read(),
+            READ_HEADER => self.keep(read_header(&self.file)),
+            LONG_HEADER => self.read_long(small, a),
             HEADER_BYTES => self.sweep_header(a, b, small, unsealed),
             HEADER_BYTES_SEALED => self.sweep_header(a, b, small, seal_header),
             HEADER_LENGTHS => {
@@ -423,7 +441,10 @@ impl Probe {
                 0 => self.head.size = (b as u64) << 32 | a as u64,
                 1 => self.head.n = a as u64,
                 2 => self.head.m = a as u64,
-                _ => self.head.s = a as u64,
+                3 => self.head.s = a as u64,
+                4 => self.head.erasure = a as u64 % 256,
+                5 => self.head.compression = a as u64 % 256,
+                _ => put(&mut self.head.uuid, a, &[b as u8]),
             },
             CHECK_CHUNK => self.check(part),
             MEASURE_CHUNK => self.measure(part),

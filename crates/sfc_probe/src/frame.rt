@@ -43,8 +43,11 @@ pub(crate) const HEADER_BYTES_SEALED: u8 = 32;
 pub(crate) const HEADER_LENGTHS: u8 = 33;
 // The extension field with tag a is looked up.
 pub(crate) const FIND_FIELD: u8 = 34;
-// A number of the kept head becomes another: by the small number the size (a + 2^32·b), N, M or S (a).
+// A number of the kept head becomes another: by the small number the size (a + 2^32·b), N, M or S (a), the erasure or the
+// compression identifier (a), or byte a of the UUID (b).
 pub(crate) const SET_HEAD: u8 = 35;
+// The header of a longer file is read, which has a bytes of the small number before its last 64, and is sealed.
+pub(crate) const LONG_HEADER: u8 = 36;
 
 // The b bytes at a are checked as a chunk.
 pub(crate) const CHECK_CHUNK: u8 = 40;

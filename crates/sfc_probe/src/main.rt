@@ -34,6 +34,7 @@ fn ask(frame: Frame, head: Head, file: &mut [u8]) -> Head {
             head
         }
         frame::READ_HEADER => header::read(head, file),
+        frame::LONG_HEADER => header::read_long(frame, head, file),
         frame::FIND_FIELD => {
             header::find(file, (frame.a % 65536) as u16);
             head
