@@ -155,14 +155,15 @@ fn check_extension(head: &Head, rest: &mut Rest) -> Result<(), u8> {
     Ok(())
 }
 
-/// The place in the input where the value of the first field with this tag begins, and its length; the rest of the header
-/// may be wrong, but H must have its range, and the field must lie whole in the region.
-pub fn find_field(input: &[u8], wanted: u64) -> Option<(usize, u64)> {
-    let mut rest = Rest(input);
-    rest.bytes(8)?;
-    let length = Rest(rest.0).number(4).filter(|length| LENGTHS.contains(length))?;
-    rest.0 = &rest.0[..rest.0.len().min(4 + length as usize)];
-    let region_end = 8 + rest.0.len();
+/// The place in the input where the value of the field with this tag begins, and its length; or the header's number.
+pub fn find_field(input: &[u8], wanted: u64) -> Result<Option<(usize, u64)>, u8> {
+    let head = read_header(input)?;
+    Ok(field_before(12 + head.header_length as usize, input, wanted))
+}
+
+/// That place, where the region ends at another.
+fn field_before(region_end: usize, input: &[u8], wanted: u64) -> Option<(usize, u64)> {
+    let mut rest = Rest(&input[8..region_end]);
     let priorities = fixed_fields(&mut rest)?.priorities;
     rest.bytes(4 * priorities)?;
     loop {
@@ -208,4 +209,12 @@ pub fn check_chunk<'a>(head: &Head, input: &'a [u8]) -> Result<(u64, &'a [u8]), 
     must((compression, erasure) == (head.compression, head.erasure), 39)?;
     must(length == head.s, 40)?;
     Ok((index, payload))
+}
+
+/// How many bytes the chunk at the front takes up, whatever else is wrong with it.
+pub fn measure_chunk(head: &Head, input: &[u8]) -> Result<usize, u8> {
+    match check_chunk(head, input) {
+        Err(number @ (71 | 30..=32)) => Err(number),
+        _ => Ok(84 + input[28..32].iter().rev().fold(0, |high, &byte| high << 8 | usize::from(byte))),
+    }
 }

@@ -1,8 +1,8 @@
 //! The listing of a file, as the program sfc_list prints it.
 use crate::blake3::hex;
-use crate::container::{must, read_header, Head};
+use crate::container::{must, read_header};
 use crate::hand_out::{Lent, Scratch};
-use crate::note::{missing, ranges, BARRED, HELD};
+use crate::note::{counts, missing, ranges};
 use crate::session::Session;
 use crate::writer::Plan;
 use std::io::{Read, Write};
@@ -11,28 +11,19 @@ use std::io::{Read, Write};
 const FILE: usize = 65_536;
 const STORE: u64 = 32_768;
 
-/// The chunks of a file, offered one after the other; the first that is cut short, none, or too long ends them.
-fn offer_all(session: &mut Session, head: &Head, chunks: &[u8]) {
-    let mut rest = chunks;
-    while !matches!(session.offer(head, rest), Err(30..=32)) {
-        let payload = u32::from_le_bytes(rest[28..32].try_into().unwrap());
-        rest = &rest[84 + payload as usize..];
-    }
-}
-
 fn lines(file: &[u8]) -> Result<Vec<String>, u8> {
     must(file.len() <= FILE, 15)?;
     let head = read_header(file)?;
     let blocks = (head.n + head.m) as usize;
     must(blocks as u64 * head.s <= STORE, 15)?;
     let mut session = Session::new(&head, vec![0; blocks * head.s as usize], vec![0; blocks]);
-    offer_all(&mut session, &head, &file[12 + head.header_length as usize..file.len() - 64]);
+    session.offer_chunks(&head, &file[12 + head.header_length as usize..file.len() - 64]);
     let (store, marks) = (session.store(), session.marks());
-    let count = |wanted: u8| marks.iter().filter(|&&mark| mark == wanted).count();
+    let (held, barred) = counts(&head, &marks)?;
     let mut lines = vec![
         format!("sfc uuid={}", hex(&head.uuid)),
         format!("blocks={} recovery={} size={} block={}", head.n, head.m, head.size, head.s),
-        format!("held={} barred={}", count(HELD), count(BARRED)),
+        format!("held={held} barred={barred}"),
     ];
     lines.extend(ranges(&missing(&head, &marks)?).iter().map(|(first, last)| format!("missing {first}-{last}")));
     let mut scratch = Scratch { bytes: vec![0; (head.m * head.s) as usize], numbers: vec![0; 1024] };

@@ -1,5 +1,5 @@
 //! What a session knows, from its marks alone: the prefix, the missing list, and the resend note both ways.
-use crate::container::{is_shape_lawful, Head};
+use crate::container::{is_shape_lawful, must, Head};
 
 pub const HELD: u8 = 1;
 pub const BARRED: u8 = 2;
@@ -22,6 +22,13 @@ pub fn prefix(head: &Head, store: &[u8], marks: &[u8]) -> Result<(usize, Vec<u8>
     let data = store.chunks(head.s as usize).zip(marks).take(head.n as usize);
     let held: Vec<&[u8]> = data.take_while(|&(_, &mark)| mark == HELD).map(|(block, _)| block).collect();
     Ok((held.len(), held.iter().copied().flatten().copied().take(head.size as usize).collect()))
+}
+
+/// How many marks say held, and how many barred.
+pub fn counts(head: &Head, marks: &[u8]) -> Result<(usize, usize), u8> {
+    must(are_marks_right(head, marks), 71)?;
+    let count = |wanted: u8| marks.iter().filter(|&&mark| mark == wanted).count();
+    Ok((count(HELD), count(BARRED)))
 }
 
 /// The data indices that are not held, and none where enough blocks of either kind are.

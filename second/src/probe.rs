@@ -4,8 +4,8 @@ mod listings;
 mod writes;
 
 use crate::blake3::{hash, hex};
-use crate::container::{check_chunk, find_field, read_header, Head};
-use crate::note::{missing, note, prefix, ranges, read_note};
+use crate::container::{check_chunk, find_field, measure_chunk, read_header, Head};
+use crate::note::{counts, missing, note, prefix, ranges, read_note};
 use crate::session::Session;
 use hand_outs::Call;
 pub use listings::{LEAST_OUTPUT, OTHER_LENGTH};
@@ -29,22 +29,27 @@ pub const HEADER_BYTES_SEALED: u8 = 32;
 pub const HEADER_LENGTHS: u8 = 33;
 pub const FIND_FIELD: u8 = 34;
 pub const SET_HEAD: u8 = 35;
+pub const LONG_HEADER: u8 = 36;
 pub const CHECK_CHUNK: u8 = 40;
 pub const CHUNK_BYTES: u8 = 41;
 pub const CHUNK_BYTES_SEALED: u8 = 42;
 pub const CHUNK_LENGTHS: u8 = 43;
+pub const MEASURE_CHUNK: u8 = 44;
 pub const BEGIN: u8 = 50;
 pub const SET_TALLY: u8 = 51;
 pub const OFFER: u8 = 52;
 pub const SHOW: u8 = 53;
 pub const LEND: u8 = 54;
 pub const SCRATCH: u8 = 55;
+pub const OFFER_CHUNKS: u8 = 56;
 pub const PREFIX: u8 = 60;
 pub const LIST_MISSING: u8 = 61;
 pub const WRITE_NOTE: u8 = 62;
 pub const READ_NOTE: u8 = 63;
 pub const NOTE_VALUES: u8 = 64;
 pub const NOTE_LENGTHS: u8 = 65;
+pub const LIST_RANGES: u8 = 66;
+pub const COUNT_MARKS: u8 = 67;
 pub const HAND_OUT: u8 = 70;
 pub const BLOCK: u8 = 71;
 pub const WRITE: u8 = 72;
@@ -55,6 +60,8 @@ pub const LISTING: u8 = 75;
 /// The most bytes that a file has here, and a printed line.
 const ROOM: usize = 65_536;
 const LINE: usize = 4_096;
+/// The same of a file that is longer for one reading.
+const LONG_ROOM: usize = 65_613;
 /// The longest output of a hand-out, a block request or a writer that is shown byte by byte.
 const SHOWN: usize = 64;
 /// The most marks of a session.
@@ -109,7 +116,8 @@ pub fn seal_chunk(chunk: &mut [u8]) {
 
 fn print_head(head: &Head) {
     print!("good H={} uuid={}", head.header_length, hex(&head.uuid));
-    print!(" size={} format={} name={}", head.size, head.format, hex(&head.name));
+    // a name is followed by zeros up to its 255 bytes
+    print!(" size={} format={} name={} then zeros", head.size, head.format, hex(&head.name));
     print!(" hash={} N={} M={} S={}", hex(&head.hash), head.n, head.m, head.s);
     print!(" erasure={} compression={}", head.erasure, head.compression);
     println!(" flags={} P={}", head.flags, head.priorities);
@@ -171,6 +179,20 @@ fn numbers(output: &[u32]) -> String {
     output.iter().map(|number| format!(" {number:08x}")).collect()
 }
 
+/// First and last of each pair, one pair after the other.
+fn bounds(pairs: &[(u32, u32)]) -> Vec<u32> {
+    pairs.iter().flat_map(|&(first, last)| [first, last]).collect()
+}
+
+/// A list in an output of so many numbers.
+fn print_listed(list: Result<Vec<u32>, u8>, room: usize) {
+    let (answer, output) = lent(list, room, NUMBER_PATTERN);
+    match answer {
+        Ok(count) => println!("listed {count}{}", numbers(&output)),
+        Err(number) => println!("{number}{}", numbers(&output)),
+    }
+}
+
 /// 0 for a note whose numbers fit the largest output.
 fn note_answer(bytes: &[u8]) -> u8 {
     match read_note(bytes) {
@@ -223,8 +245,21 @@ impl Probe {
         }
     }
 
-    fn read(&mut self) {
-        match read_header(&self.file) {
+    /// Reads the header of a file with more bytes before its last 64, sealed.
+    fn read_long(&mut self, value: u8, count: usize) {
+        let mut long = vec![value; (self.file.len() + count).min(LONG_ROOM)];
+        if let Some(split) = self.file.len().checked_sub(64) {
+            let at = long.len() - 64;
+            put(&mut long, 0, &self.file[..split]);
+            put(&mut long, at, &self.file[split..]);
+        }
+        seal_header(&mut long);
+        self.keep(read_header(&long));
+    }
+
+    /// Prints what reading a header gave, and keeps an accepted one.
+    fn keep(&mut self, read: Result<Head, u8>) {
+        match read {
             Ok(head) => {
                 print_head(&head);
                 self.head = head;
@@ -239,6 +274,18 @@ impl Probe {
             Ok((index, _)) => println!("whole {index} 48"),
             Err(number) => println!("{number}"),
         }
+    }
+
+    fn measure(&self, part: std::ops::Range<usize>) {
+        match measure_chunk(&self.head, &self.file[part]) {
+            Ok(length) => println!("length {length}"),
+            Err(number) => println!("{number}"),
+        }
+    }
+
+    fn offer_chunks(&mut self, part: std::ops::Range<usize>) {
+        println!("walked {}", self.session.offer_chunks(&self.head, &self.file[part]));
+        self.show();
     }
 
     fn offer(&mut self, part: std::ops::Range<usize>) {
@@ -276,12 +323,20 @@ impl Probe {
         }
     }
 
-    fn list_missing(&self, room: usize) {
-        let (answer, output) = lent(missing(&self.head, &self.session.marks()), room, NUMBER_PATTERN);
-        match answer {
-            Ok(count) => println!("listed {count}{}", numbers(&output)),
-            Err(number) => println!("{number}{}", numbers(&output)),
+    fn count_marks(&self) {
+        match counts(&self.head, &self.session.marks()) {
+            Ok((held, barred)) => println!("held {held} barred {barred}"),
+            Err(number) => println!("{number}"),
         }
+    }
+
+    fn list_ranges(&self, room: usize) {
+        let both = |list: Vec<u32>| bounds(&ranges(&list));
+        print_listed(missing(&self.head, &self.session.marks()).map(both), room);
+    }
+
+    fn list_missing(&self, room: usize) {
+        print_listed(missing(&self.head, &self.session.marks()), room);
     }
 
     fn write_note(&self, room: usize) {
@@ -296,7 +351,7 @@ impl Probe {
     fn read_note(&self, room: usize) {
         let read = read_note(&self.file);
         let uuid = read.as_ref().map_or(vec![0; 16], |read| read.0.clone());
-        let bounds = read.map(|read| read.1.iter().flat_map(|&(first, last)| [first, last]).collect());
+        let bounds = read.map(|read| bounds(&read.1));
         let (answer, output) = lent(bounds, room, NUMBER_PATTERN);
         match answer {
             Ok(count) => println!("good ranges {} uuid {}{}", count / 2, hex(&uuid), numbers(&output)),
@@ -309,6 +364,8 @@ impl Probe {
         match opcode {
             PREFIX => self.give_prefix(a.min(ROOM)),
             LIST_MISSING => self.list_missing(a.min(NUMBERS)),
+            LIST_RANGES => self.list_ranges(a.min(NUMBERS)),
+            COUNT_MARKS => self.count_marks(),
             WRITE_NOTE => self.write_note(a.min(ROOM)),
             READ_NOTE => self.read_note(a.min(NUMBERS)),
             NOTE_VALUES => {
@@ -356,6 +413,7 @@ impl Probe {
                 }
             }
             OFFER => self.offer(clipped(self.file.len(), a, b)),
+            OFFER_CHUNKS => self.offer_chunks(clipped(self.file.len(), a, b)),
             SHOW => self.show(),
             _ => {}
         }
@@ -365,7 +423,8 @@ impl Probe {
     fn reader_frame(&mut self, opcode: u8, small: u8, a: usize, b: usize) {
         let part = clipped(self.file.len(), a, b);
         match opcode {
-            READ_HEADER => self.read(),
+            READ_HEADER => self.keep(read_header(&self.file)),
+            LONG_HEADER => self.read_long(small, a),
             HEADER_BYTES => self.sweep_header(a, b, small, unsealed),
             HEADER_BYTES_SEALED => self.sweep_header(a, b, small, seal_header),
             HEADER_LENGTHS => {
@@ -374,16 +433,21 @@ impl Probe {
                 print_runs(a, &answers);
             }
             FIND_FIELD => match find_field(&self.file, a as u64 % 65_536) {
-                Some((place, length)) => println!("at {place} {length}"),
-                None => println!("nothing"),
+                Ok(Some((place, length))) => println!("at {place} {length}"),
+                Ok(None) => println!("nothing"),
+                Err(number) => println!("{number}"),
             },
             SET_HEAD => match small {
                 0 => self.head.size = (b as u64) << 32 | a as u64,
                 1 => self.head.n = a as u64,
                 2 => self.head.m = a as u64,
-                _ => self.head.s = a as u64,
+                3 => self.head.s = a as u64,
+                4 => self.head.erasure = a as u64 % 256,
+                5 => self.head.compression = a as u64 % 256,
+                _ => put(&mut self.head.uuid, a, &[b as u8]),
             },
             CHECK_CHUNK => self.check(part),
+            MEASURE_CHUNK => self.measure(part),
             CHUNK_BYTES => self.sweep_chunk(part, small, unsealed),
             CHUNK_BYTES_SEALED => self.sweep_chunk(part, small, seal_chunk),
             CHUNK_LENGTHS => {

@@ -8,6 +8,7 @@ mod histories;
 mod listings;
 mod notes;
 mod sessions;
+mod walks;
 mod writes;
 
 use crate::probe::*;
@@ -28,17 +29,53 @@ fn load_longest_header(script: &mut Script) {
     script.seal();
 }
 
+/// H up to the most that there is and past it, in files that only one frame has room for.
+fn longest_headers(script: &mut Script) {
+    let (held, last_field) = (65_460, 343 + 3 * 16_390);
+    load_longest_header(script);
+    let mut read = |title: &str, length: usize, value: usize, small: u8, more: usize| {
+        script.say(&format!("H {length}{title}"));
+        script.edit(&[Four(8, length), Four(last_field + 2, value)]);
+        script.frame(LONG_HEADER, small, more, 0);
+    };
+    let field_for = |length: usize| 15_953 + length - held;
+    for length in [65_460, 65_461, 65_462, 65_500, 65_534, 65_535, 65_536, 65_537] {
+        read("", length, field_for(length), 0, length - held);
+        read(", its last field of other bytes", length, field_for(length), 7, length - held);
+    }
+    let (length, value) = (65_536, field_for(65_536));
+    for (title, value, more) in [
+        (", a field that ends a byte early", value - 1, 76),
+        (", a field that ends a byte late", value + 1, 76),
+        (", a byte too few for the trailer", value, 75),
+        (", a byte before the trailer", value, 77),
+        (", more than there is room for", value, 78),
+        (", and nothing added", value, 0),
+    ] {
+        read(title, length, value, 0, more);
+    }
+    script.load(&[7; 63]);
+    script.say("no file has a trailer of fewer bytes");
+    for more in [0, 1, 100] {
+        script.frame(LONG_HEADER, 7, more, 0);
+    }
+}
+
 /// Frames with numbers that are out of range: as much is done as there is.
 fn frames_out_of_range(script: &mut Script) {
     let most = u32::MAX as usize;
     script.say("frames out of range");
     script.frame(READ_HEADER, 9, most, most);
+    script.frame(LONG_HEADER, 9, most, most);
     script.check(most, most);
     script.load(&plan(14, 4, 1).file());
     for opcode in [CUT, SET_BYTE, SET_16, SET_32, SEAL_CHUNK, HEADER_BYTES, HEADER_BYTES_SEALED, HEADER_LENGTHS] {
         script.frame(opcode, 1, most, most);
     }
     for opcode in [CHECK_CHUNK, CHUNK_BYTES, CHUNK_BYTES_SEALED, CHUNK_LENGTHS, SET_TALLY, OFFER, LEND, 2, 99, 255] {
+        script.frame(opcode, 1, most, most);
+    }
+    for opcode in [MEASURE_CHUNK, OFFER_CHUNKS, COUNT_MARKS] {
         script.frame(opcode, 1, most, most);
     }
     for opcode in [NOTE_VALUES, NOTE_LENGTHS, SET_HEAD] {
@@ -83,6 +120,8 @@ const READING: &[Part] = &[
     chunks::damaged_chunks,
     chunks::chunk_fields,
     chunks::chunk_order,
+    chunks::other_heads,
+    longest_headers,
 ];
 
 const SESSIONS: &[Part] = &[
@@ -93,6 +132,10 @@ const SESSIONS: &[Part] = &[
     sessions::any_order,
     histories::every_order,
     histories::long_histories,
+    walks::whole_files,
+    walks::damaged_chunks,
+    walks::other_chunks,
+    walks::wrong_sessions,
 ];
 
 const NOTES: &[Part] = &[

@@ -94,8 +94,10 @@ impl Script {
         self.read();
     }
 
+    /// A part that is checked as a chunk, and measured.
     pub fn check(&mut self, at: usize, length: usize) {
         self.frame(CHECK_CHUNK, 0, at, length);
+        self.frame(MEASURE_CHUNK, 0, at, length);
     }
 
     /// The chunk at a place that is changed, sealed again, and changed once more.

@@ -1,5 +1,5 @@
 //! A session as what each index has met: no payload, one, or payloads that differ.
-use crate::container::{check_chunk, Head};
+use crate::container::{check_chunk, measure_chunk, Head};
 use crate::note::is_lent_right;
 use std::collections::{BTreeMap, BTreeSet};
 
@@ -51,6 +51,18 @@ impl Session {
         };
         self.tallies[tally] += 1;
         verdict
+    }
+
+    /// Offers the chunks of some bytes one after the other, and gives the place of the first byte that belongs to none.
+    pub fn offer_chunks(&mut self, head: &Head, bytes: &[u8]) -> usize {
+        let mut rest = bytes;
+        while let Ok(length) = measure_chunk(head, rest) {
+            let (chunk, after) = rest.split_at(length);
+            // its verdict is in the tallies, and ends nothing
+            let _ = self.offer(head, chunk);
+            rest = after;
+        }
+        bytes.len() - rest.len()
     }
 
     fn meet(&mut self, head: &Head, chunk: &[u8]) -> Result<Offered, u8> {

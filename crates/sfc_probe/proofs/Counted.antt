@@ -7,7 +7,7 @@ use lib.ListN.{length, length-append}
 use lib.Seq.{length-take-le}
 use Rattle.io.specs.Counts.{Counts}
 
-pub counts-within : (n : ℕ) (xs : List ℕ) → n ≤ length xs → Counts n xs
+counts-within : (n : ℕ) (xs : List ℕ) → n ≤ length xs → Counts n xs
 counts-within n xs h = (h, sym (length-take-le n xs h))
 
 pub counts-longer : (n : ℕ) (xs ys : List ℕ) → Counts n xs → Counts n (xs ++ ys)

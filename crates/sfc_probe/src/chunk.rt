@@ -1,12 +1,14 @@
-// Frames that check a part of the file as a chunk.
+// Frames that check or measure a part of the file as a chunk.
 use crate::edit;
 use crate::frame;
 use crate::frame::Frame;
 use crate::print;
 use crate::run::Run;
 use sfc::ChunkChecked;
+use sfc::ChunkMeasured;
 use sfc::Head;
 use sfc::check_chunk;
+use sfc::measure_chunk;
 use sfc::number_of;
 
 // The number of the refusal, and 0 for a whole chunk.
@@ -26,6 +28,15 @@ fn check(head: Head, chunk: &[u8]) {
             print::field(b"whole ", index.0 as u64);
             print::field(b" ", place.0 as u64);
         }
+    }
+    print::line_end();
+}
+
+fn measure(head: Head, chunk: &[u8]) {
+    let measured = measure_chunk(head, chunk);
+    match measured {
+        ChunkMeasured::Refused(reason) => print::decimal(number_of(reason) as u64),
+        ChunkMeasured::Length(length) => print::field(b"length ", length as u64),
     }
     print::line_end();
 }
@@ -58,7 +69,7 @@ fn sweep_bytes(head: Head, chunk: &mut [u8], mask: u8, sealed: bool) {
 }
 
 fn prefix_answer(head: Head, chunk: &[u8], length: usize) -> u8 {
-    let end = edit::within(length, chunk);
+    let end = little::within8(length, chunk);
     answer(head, &chunk[..end])
 }
 
@@ -74,9 +85,9 @@ fn sweep_lengths(head: Head, chunk: &[u8]) {
 }
 
 pub(crate) fn ask(frame: Frame, head: Head, file: &mut [u8]) {
-    let start = edit::within(frame.a as usize, file);
+    let start = little::within8(frame.a as usize, file);
     let rest = &mut file[start..];
-    let end = edit::within(frame.b as usize, rest);
+    let end = little::within8(frame.b as usize, rest);
     let chunk = &mut rest[..end];
     let opcode = frame.opcode;
     match opcode {
@@ -84,6 +95,7 @@ pub(crate) fn ask(frame: Frame, head: Head, file: &mut [u8]) {
         frame::CHUNK_BYTES => sweep_bytes(head, chunk, frame.small, false),
         frame::CHUNK_BYTES_SEALED => sweep_bytes(head, chunk, frame.small, true),
         frame::CHUNK_LENGTHS => sweep_lengths(head, chunk),
+        frame::MEASURE_CHUNK => measure(head, chunk),
         _ => {}
     }
 }

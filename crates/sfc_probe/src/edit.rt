@@ -3,8 +3,6 @@ use crate::frame;
 use crate::frame::Frame;
 use crate::write;
 use libc::STDIN_FILENO;
-ghost use Prim.Native.Nat.{_≤_};
-ghost use lib.ListN.{length};
 ghost use Rattle.io.specs.Counts.{Counts};
 
 // How many bytes of the two buffers are the file and the kept file.
@@ -13,22 +11,9 @@ pub(crate) struct Sizes {
     pub(crate) kept: usize,
 }
 
-pub(crate) fn least(a: usize, b: usize) -> usize
-    ensures { λ r. ⌜ (r ≤ a) × (r ≤ b) ⌝ }
-{
-    if a < b { a } else { b }
-}
-
-// How many of the first n bytes a slice has. It takes the slice, so that its contract can speak of it.
-pub(crate) fn within(n: usize, s: &[u8]) -> usize
-    ensures { λ r. ⌜ Counts r (now (s .entry)) ⌝ }
-{
-    least(n, s.len())
-}
-
 // Copies as many bytes as the shorter has.
 pub(crate) fn copy(src: &[u8], dst: &mut [u8]) {
-    let end = least(src.len(), dst.len());
+    let end = little::least(src.len(), dst.len());
     let mut i = 0;
     while i < end {
         dst[i] = src[i];
@@ -36,31 +21,11 @@ pub(crate) fn copy(src: &[u8], dst: &mut [u8]) {
     }
 }
 
-pub(crate) fn set_all(bytes: &mut [u8], value: u8) {
-    let mut i = 0;
-    while i < bytes.len() {
-        bytes[i] = value;
-        i += 1;
-    }
-}
-
-// Whether each byte is that one.
-pub(crate) fn all_are(bytes: &[u8], value: u8) -> bool {
-    let mut i = 0;
-    while i < bytes.len() {
-        if bytes[i] != value {
-            return false;
-        }
-        i += 1;
-    }
-    true
-}
-
 // Reads up to `count` bytes of input to the front of the buffer, as far as it goes, and answers how many.
 pub(crate) fn fill(count: usize, buffer: &mut [u8]) -> usize
     ensures { λ r. ⌜ Counts r (now (buffer .exit)) ⌝ }
 {
-    let end = within(count, buffer);
+    let end = little::within8(count, buffer);
     io::read_full(STDIN_FILENO, &mut buffer[..end])
 }
 
@@ -75,10 +40,10 @@ fn load(count: usize, file: &mut [u8], kept: &mut [u8]) -> Sizes {
 
 // Bytes of one value behind the file's end, as far as the buffer goes.
 fn grow(count: usize, value: u8, sizes: Sizes, file: &mut [u8]) -> Sizes {
-    let start = within(sizes.file, file);
+    let start = little::within8(sizes.file, file);
     let rest = &mut file[start..];
-    let end = within(count, rest);
-    set_all(&mut rest[..end], value);
+    let end = little::within8(count, rest);
+    little::fill8(&mut rest[..end], value);
     Sizes {
         file: start + end,
         kept: sizes.kept,
@@ -88,13 +53,13 @@ fn grow(count: usize, value: u8, sizes: Sizes, file: &mut [u8]) -> Sizes {
 // The bytes of a part behind the file's end, as far as the buffer goes.
 fn repeat(frame: Frame, sizes: Sizes, file: &mut [u8]) -> Sizes {
     let mut part = io::large_buffer();
-    let length = within(sizes.file, file);
-    let start = within(frame.a as usize, &file[..length]);
+    let length = little::within8(sizes.file, file);
+    let start = little::within8(frame.a as usize, &file[..length]);
     let rest = &file[start..length];
-    let count = within(frame.b as usize, rest);
+    let count = little::within8(frame.b as usize, rest);
     copy(&rest[..count], &mut part);
     let room = &mut file[length..];
-    let end = within(count, room);
+    let end = little::within8(count, room);
     copy(&part, &mut room[..end]);
     Sizes {
         file: length + end,
@@ -122,7 +87,7 @@ pub(crate) fn resize(frame: Frame, sizes: Sizes, file: &mut [u8], kept: &mut [u8
             }
         }
         frame::CUT => Sizes {
-            file: least(frame.a as usize, sizes.file),
+            file: little::least(frame.a as usize, sizes.file),
             kept: sizes.kept,
         },
         frame::WRITE => write::become_written(frame, sizes, file),
@@ -156,7 +121,7 @@ pub(crate) fn seal_chunk(chunk: &mut [u8]) {
     if chunk.len() < 84 + length {
         return;
     }
-    let end = within(48 + length, chunk);
+    let end = little::within8(48 + length, chunk);
     let hash = blake3::hash(&chunk[..end]);
     copy(&hash, &mut chunk[end..]);
 }
@@ -175,7 +140,7 @@ pub(crate) fn change(frame: Frame, file: &mut [u8]) {
         }
         frame::SEAL_HEADER => seal_header(file),
         frame::SEAL_CHUNK => {
-            let start = within(at, file);
+            let start = little::within8(at, file);
             seal_chunk(&mut file[start..]);
         }
         _ => {}

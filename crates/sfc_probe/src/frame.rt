@@ -43,8 +43,11 @@ pub(crate) const HEADER_BYTES_SEALED: u8 = 32;
 pub(crate) const HEADER_LENGTHS: u8 = 33;
 // The extension field with tag a is looked up.
 pub(crate) const FIND_FIELD: u8 = 34;
-// A number of the kept head becomes another: by the small number the size (a + 2^32·b), N, M or S (a).
+// A number of the kept head becomes another: by the small number the size (a + 2^32·b), N, M or S (a), the erasure or the
+// compression identifier (a), or byte a of the UUID (b).
 pub(crate) const SET_HEAD: u8 = 35;
+// The header of a longer file is read, which has a bytes of the small number before its last 64, and is sealed.
+pub(crate) const LONG_HEADER: u8 = 36;
 
 // The b bytes at a are checked as a chunk.
 pub(crate) const CHECK_CHUNK: u8 = 40;
@@ -55,6 +58,8 @@ pub(crate) const CHUNK_BYTES: u8 = 41;
 pub(crate) const CHUNK_BYTES_SEALED: u8 = 42;
 
 pub(crate) const CHUNK_LENGTHS: u8 = 43;
+// How long the chunk is that begins the b bytes at a.
+pub(crate) const MEASURE_CHUNK: u8 = 44;
 
 // A session begins with a store of a zeros and b marks of 0, but for the first, which is the small number.
 pub(crate) const BEGIN: u8 = 50;
@@ -68,6 +73,8 @@ pub(crate) const SHOW: u8 = 53;
 pub(crate) const LEND: u8 = 54;
 // Later hand-outs and block requests get a scratch of a bytes and b numbers.
 pub(crate) const SCRATCH: u8 = 55;
+// Each chunk of the b bytes at a is offered, as they stand one after the other; marks, store and tallies are then shown.
+pub(crate) const OFFER_CHUNKS: u8 = 56;
 
 // The prefix, the missing list or the note of the session is asked for, with an output of a bytes or numbers that have a
 // pattern; all of the output is printed.
@@ -82,6 +89,10 @@ pub(crate) const READ_NOTE: u8 = 63;
 pub(crate) const NOTE_VALUES: u8 = 64;
 
 pub(crate) const NOTE_LENGTHS: u8 = 65;
+// The missing list of the session as ranges, with an output of a numbers as above; how many are held and barred.
+pub(crate) const LIST_RANGES: u8 = 66;
+
+pub(crate) const COUNT_MARKS: u8 = 67;
 
 // The content is asked for, with an output of a bytes; block a is, with an output of b bytes. Output and scratch have a
 // pattern before the call; printed are the output, or its hash where it is long, and what became of the scratch.

@@ -1,17 +1,15 @@
 // Frames that ask for the content or for a block.
-use crate::edit;
 use crate::frame;
 use crate::frame::Frame;
 use crate::print;
 use crate::sets;
+use sfc::BlockGiven;
 use sfc::BlockNumber;
-use sfc::Given;
 use sfc::HandedOut;
 use sfc::Head;
 use sfc::block;
 use sfc::hand_out;
 use sfc::number_of;
-ghost use Rattle.io.specs.Counts.{Counts};
 
 // How many bytes and numbers are lent as scratch.
 pub(crate) struct Scratch {
@@ -56,34 +54,15 @@ fn told_handed_out(handed: HandedOut) -> Told {
     }
 }
 
-fn told_given(given: Given) -> Told {
+fn told_given(given: BlockGiven) -> Told {
     match given {
-        Given::Unverified(number, place) => Told {
+        BlockGiven::Unverified(number, place) => Told {
             answer: 0,
             block: number.0 as u64,
             place: place.0 as u64,
         },
-        Given::Refused(reason) => told_refused(number_of(reason)),
+        BlockGiven::Refused(reason) => told_refused(number_of(reason)),
     }
-}
-
-fn set_numbers(numbers: &mut [u16], value: u16) {
-    let mut i = 0;
-    while i < numbers.len() {
-        numbers[i] = value;
-        i += 1;
-    }
-}
-
-fn are_all(numbers: &[u16], value: u16) -> bool {
-    let mut i = 0;
-    while i < numbers.len() {
-        if numbers[i] != value {
-            return false;
-        }
-        i += 1;
-    }
-    true
 }
 
 fn is_for_content(opcode: u8) -> bool {
@@ -100,9 +79,9 @@ pub(crate) fn call(
     numbers: &mut [u16],
     out: &mut [u8],
 ) -> Told {
-    edit::set_all(scratch, 0xA5);
-    set_numbers(numbers, 0xA5A5);
-    edit::set_all(out, 0xA5);
+    little::fill8(scratch, 0xA5);
+    little::fill16(numbers, 0xA5A5);
+    little::fill8(out, 0xA5);
     if is_for_content(frame.opcode) {
         return told_handed_out(hand_out(head, store, marks, scratch, numbers, out));
     }
@@ -119,20 +98,20 @@ pub(crate) fn call(
 
 // What became of the scratch: 0 where all are zeros, 1 where all have the pattern.
 pub(crate) fn bytes_state(bytes: &[u8]) -> u8 {
-    if edit::all_are(bytes, 0) {
+    if little::are_all8(bytes, 0) {
         return 0;
     }
-    if edit::all_are(bytes, 0xA5) {
+    if little::are_all8(bytes, 0xA5) {
         return 1;
     }
     2
 }
 
 pub(crate) fn numbers_state(numbers: &[u16]) -> u8 {
-    if are_all(numbers, 0) {
+    if little::are_all16(numbers, 0) {
         return 0;
     }
-    if are_all(numbers, 0xA5A5) {
+    if little::are_all16(numbers, 0xA5A5) {
         return 1;
     }
     2
@@ -182,21 +161,14 @@ fn output_length(frame: Frame, s: u32) -> usize {
     match opcode {
         frame::HAND_OUT => frame.a as usize,
         frame::BLOCK => frame.b as usize,
-        frame::HAND_OUT_SETS => edit::least(frame.a as usize, 4096),
-        _ => edit::least(s as usize + 1, 4096),
+        frame::HAND_OUT_SETS => little::least(frame.a as usize, 4096),
+        _ => little::least(s as usize + 1, 4096),
     }
 }
 
 // One number more than a hand-out takes.
 fn numbers_room() -> [u16; 1025] {
     [0u16; 1025]
-}
-
-// How many of the first n numbers a slice has.
-pub(crate) fn within(n: usize, numbers: &[u16]) -> usize
-    ensures { λ r. ⌜ Counts r (now (numbers .entry)) ⌝ }
-{
-    edit::least(n, numbers.len())
 }
 
 // With scratch and output of the lengths that are asked for.
@@ -210,7 +182,7 @@ fn ask_with(
     out: &mut [u8],
 ) {
     let mut room = numbers_room();
-    let end = within(lent.numbers, &room);
+    let end = little::within16(lent.numbers, &room);
     let numbers = &mut room[..end];
     if (frame.opcode == frame::HAND_OUT) | (frame.opcode == frame::BLOCK) {
         one(frame, head, store, marks, scratch, numbers, out);
@@ -222,8 +194,8 @@ fn ask_with(
 fn lend(frame: Frame, head: Head, lent: Scratch, store: &[u8], marks: &[u8]) {
     let mut scratch = io::large_buffer();
     let mut out = io::large_buffer();
-    let scratch_end = edit::within(lent.bytes, &scratch);
-    let out_end = edit::within(output_length(frame, head.s), &out);
+    let scratch_end = little::within8(lent.bytes, &scratch);
+    let out_end = little::within8(output_length(frame, head.s), &out);
     ask_with(
         frame,
         head,

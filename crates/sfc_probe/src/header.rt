@@ -2,6 +2,7 @@
 use crate::edit;
 use crate::frame;
 use crate::frame::Frame;
+use crate::handout;
 use crate::print;
 use crate::run::Run;
 use sfc::Checked;
@@ -27,9 +28,12 @@ fn answer(file: &[u8]) -> u8 {
     }
 }
 
+// The name, and whether zeros follow it.
 fn print_name(name: [u8; 255], length: u8) {
-    let end = edit::within(length as usize, &name);
+    let end = little::within8(length as usize, &name);
     print::bytes(b" name=", &name[..end]);
+    print::text(b" then ");
+    handout::print_state(handout::bytes_state(&name[end..]));
 }
 
 fn print_hash(hash: [u8; 32]) {
@@ -82,6 +86,14 @@ pub(crate) fn read(kept: Head, file: &[u8]) -> Head {
     }
 }
 
+fn with_uuid_byte(head: Head, at: usize, value: u8) -> Head {
+    let mut next = head;
+    if at < 16 {
+        next.uuid[at] = value;
+    }
+    next
+}
+
 // The head with another number, which no header need have.
 pub(crate) fn with_number(frame: Frame, head: Head) -> Head {
     let which = frame.small;
@@ -90,12 +102,15 @@ pub(crate) fn with_number(frame: Frame, head: Head) -> Head {
         0 => next.size = frame.b as u64 * 4294967296 + frame.a as u64,
         1 => next.n = frame.a,
         2 => next.m = frame.a,
-        _ => next.s = frame.a,
+        3 => next.s = frame.a,
+        4 => next.erasure = (frame.a % 256) as u8,
+        5 => next.compression = (frame.a % 256) as u8,
+        _ => next = with_uuid_byte(head, frame.a as usize, (frame.b % 256) as u8),
     }
     next
 }
 
-// Where the value of a field begins, and its length.
+// Where the value of a field begins, and its length; a header that is refused gives its number.
 pub(crate) fn find(file: &[u8], tag: u16) {
     let found = find_field(file, tag);
     match found {
@@ -104,8 +119,42 @@ pub(crate) fn find(file: &[u8], tag: u16) {
             print::field(b" ", length as u64);
         }
         FieldFound::Nothing => print::text(b"nothing"),
+        FieldFound::Refused(reason) => print::decimal(number_of(reason) as u64),
     }
     print::line_end();
+}
+
+// As long as the longest header with all that stands around it, and a byte more.
+fn long_room(value: u8) -> [u8; 65613] {
+    [value; 65613]
+}
+
+// Puts the file's last 64 bytes to the end of a longer one, and the others to its front.
+fn put_apart(file: &[u8], long: &mut [u8]) {
+    if file.len() < 64 {
+        return;
+    }
+    if long.len() < 64 {
+        return;
+    }
+    let split = little::within8(file.len() - 64, file);
+    let at = long.len() - 64;
+    edit::copy(&file[split..], &mut long[at..]);
+    edit::copy(&file[..split], long);
+}
+
+fn read_apart(kept: Head, file: &[u8], long: &mut [u8]) -> Head {
+    put_apart(file, long);
+    edit::seal_header(long);
+    read(kept, long)
+}
+
+// Reads the header of a file that is longer by bytes of one value.
+pub(crate) fn read_long(frame: Frame, kept: Head, file: &[u8]) -> Head {
+    let mut room = long_room(frame.small);
+    let length = little::least(file.len(), 65536) + frame.a as usize;
+    let end = little::within8(length, &room);
+    read_apart(kept, file, &mut room[..end])
 }
 
 // The answer with one byte changed, and the trailer sealed if that is asked for.
@@ -122,7 +171,7 @@ fn changed_answer(file: &mut [u8], at: usize, mask: u8, sealed: bool) -> u8 {
 fn sweep_bytes(file: &mut [u8], from: usize, to: usize, mask: u8, sealed: bool) {
     let mut before = io::large_buffer();
     edit::copy(file, &mut before);
-    let end = edit::least(to, file.len());
+    let end = little::least(to, file.len());
     let mut run = Run::new();
     let mut at = from;
     while at < end {
@@ -136,12 +185,12 @@ fn sweep_bytes(file: &mut [u8], from: usize, to: usize, mask: u8, sealed: bool) 
 }
 
 fn prefix_answer(file: &[u8], length: usize) -> u8 {
-    let end = edit::within(length, file);
+    let end = little::within8(length, file);
     answer(&file[..end])
 }
 
 fn sweep_lengths(file: &[u8], from: usize, to: usize) {
-    let end = edit::least(to, file.len());
+    let end = little::least(to, file.len());
     let mut run = Run::new();
     let mut length = from;
     while length < end {

@@ -2,10 +2,9 @@
 use crate::edit;
 use crate::frame::Frame;
 use crate::handout;
-use crate::note;
 use crate::print;
 use sfc::Written;
-use sfc_listing::listing::listing;
+use sfc_listing::listing;
 
 // The pieces of lent memory, by the small number of a frame that gives one of them another length; then the file.
 const STORE: u8 = 1;
@@ -55,23 +54,12 @@ fn file_room() -> [u8; 65537] {
     [0u8; 65537]
 }
 
-fn are_all(bounds: &[u32], value: u32) -> bool {
-    let mut i = 0;
-    while i < bounds.len() {
-        if bounds[i] != value {
-            return false;
-        }
-        i += 1;
-    }
-    true
-}
-
 // What became of the numbers: 0 where all are zeros, 1 where all have the pattern.
 fn bounds_state(bounds: &[u32]) -> u8 {
-    if are_all(bounds, 0) {
+    if little::are_all32(bounds, 0) {
         return 0;
     }
-    if are_all(bounds, 0xA5A5A5A5) {
+    if little::are_all32(bounds, 0xA5A5A5A5) {
         return 1;
     }
     2
@@ -94,7 +82,7 @@ fn report(
     out: &[u8],
 ) {
     let length = print::written(b"listed ", written);
-    let end = edit::within(length, out);
+    let end = little::within8(length, out);
     print_piece(b" behind ", handout::bytes_state(&out[end..]));
     print_piece(b" desk ", handout::bytes_state(store));
     print_piece(b" ", handout::bytes_state(marks));
@@ -137,12 +125,12 @@ fn lend(frame: Frame, file: &[u8], out: &mut [u8]) {
     let mut numbers = numbers_room();
     let mut content = bytes_room();
     let mut bounds = bounds_room();
-    let store_end = edit::within(length_of(frame, STORE, 32768), &store);
-    let marks_end = edit::within(length_of(frame, MARKS, 1056), &marks);
-    let scratch_end = edit::within(length_of(frame, SCRATCH, 32768), &scratch);
-    let numbers_end = handout::within(length_of(frame, NUMBERS, 1024), &numbers);
-    let content_end = edit::within(length_of(frame, CONTENT, 32768), &content);
-    let bounds_end = note::within(length_of(frame, BOUNDS, 1024), &bounds);
+    let store_end = little::within8(length_of(frame, STORE, 32768), &store);
+    let marks_end = little::within8(length_of(frame, MARKS, 1056), &marks);
+    let scratch_end = little::within8(length_of(frame, SCRATCH, 32768), &scratch);
+    let numbers_end = little::within16(length_of(frame, NUMBERS, 1024), &numbers);
+    let content_end = little::within8(length_of(frame, CONTENT, 32768), &content);
+    let bounds_end = little::within32(length_of(frame, BOUNDS, 1024), &bounds);
     list(
         file,
         &mut store[..store_end],
@@ -159,7 +147,7 @@ pub(crate) fn ask(frame: Frame, file: &[u8]) {
     let mut long = file_room();
     let mut out = out_room();
     edit::copy(file, &mut long);
-    let file_end = edit::within(length_of(frame, FILE, file.len()), &long);
-    let out_end = edit::within(frame.a as usize, &out);
+    let file_end = little::within8(length_of(frame, FILE, file.len()), &long);
+    let out_end = little::within8(frame.a as usize, &out);
     lend(frame, &long[..file_end], &mut out[..out_end]);
 }

@@ -1,4 +1,4 @@
-// Drives the public calls of sfc and sfc_listing by frames from standard input, and prints a line for each answer, for
+// Drives the public calls of sfc, sfc_walk and sfc_listing by frames from standard input, and prints a line for each answer, for
 // comparison with the second program. The frames are listed in frame.rt.
 mod chunk;
 mod edit;
@@ -12,7 +12,7 @@ mod print;
 mod run;
 mod session;
 mod sets;
-mod writing;
+mod write;
 
 use edit::Sizes;
 use frame::Frame;
@@ -34,6 +34,7 @@ fn ask(frame: Frame, head: Head, file: &mut [u8]) -> Head {
             head
         }
         frame::READ_HEADER => header::read(head, file),
+        frame::LONG_HEADER => header::read_long(frame, head, file),
         frame::FIND_FIELD => {
             header::find(file, (frame.a % 65536) as u16);
             head
@@ -84,7 +85,7 @@ fn serve_session(
     file: &[u8],
     end: usize,
 ) -> Session {
-    let length = edit::within(end, file);
+    let length = little::within8(end, file);
     session::serve(frame, head, session, store, marks, &file[..length])
 }
 
@@ -101,7 +102,7 @@ fn step(
     let head_before = state.head;
     let session_before = state.session;
     let sizes = edit::resize(frame, sizes_before, file, kept);
-    let end = edit::within(sizes.file, file);
+    let end = little::within8(sizes.file, file);
     let head = serve(frame, head_before, &mut file[..end]);
     let session = serve_session(frame, head, session_before, store, marks, file, end);
     State {

@@ -8,18 +8,10 @@ use sfc::Checked;
 use sfc::NoteRead;
 use sfc::number_of;
 use sfc::read_note;
-ghost use Rattle.io.specs.Counts.{Counts};
 
 // As many numbers as the longest missing list has, with a pattern.
 pub(crate) fn patterned() -> [u32; 1024] {
     [0xA5A5A5A5u32; 1024]
-}
-
-// How many of the first n numbers a slice has.
-pub(crate) fn within(n: usize, numbers: &[u32]) -> usize
-    ensures { λ r. ⌜ Counts r (now (numbers .entry)) ⌝ }
-{
-    edit::least(n, numbers.len())
 }
 
 fn print_verdict(verdict: Checked) {
@@ -40,7 +32,7 @@ fn print_read(read: NoteRead) {
 // Reads into an output of that many numbers.
 fn read(note: &[u8], count: usize) {
     let mut room = patterned();
-    let end = within(count, &room);
+    let end = little::within32(count, &room);
     let out = &mut room[..end];
     let read = read_note(note, out);
     print_read(read);
@@ -79,7 +71,7 @@ fn sweep_values(note: &mut [u8], at: usize) {
 }
 
 fn prefix_answer(note: &[u8], length: usize) -> u8 {
-    let end = edit::within(length, note);
+    let end = little::within8(length, note);
     answer(&note[..end])
 }
 

@@ -11,6 +11,7 @@ use sfc::Tallies;
 use sfc::Verdict;
 use sfc::number_of;
 use sfc::offer;
+use sfc_walk::offer_chunks;
 
 // How many bytes of the two buffers are store and marks, how much scratch is lent, and the tallies.
 pub(crate) struct Session {
@@ -33,12 +34,12 @@ pub(crate) fn none() -> Session {
 }
 
 fn begin(frame: Frame, scratch: Scratch, store: &mut [u8], marks: &mut [u8]) -> Session {
-    edit::set_all(store, 0);
-    edit::set_all(marks, 0);
+    little::fill8(store, 0);
+    little::fill8(marks, 0);
     edit::set_byte(marks, 0, frame.small);
     Session {
-        store: edit::least(frame.a as usize, store.len()),
-        marks: edit::least(frame.b as usize, marks.len()),
+        store: little::least(frame.a as usize, store.len()),
+        marks: little::least(frame.b as usize, marks.len()),
         scratch,
         tallies: Tallies::new(),
     }
@@ -51,14 +52,14 @@ fn lend(
     marks: &mut [u8],
     file: &[u8],
 ) -> Session {
-    let middle = edit::within(frame.b as usize, file);
+    let middle = little::within8(frame.b as usize, file);
     edit::copy(&file[..middle], marks);
     let rest = &file[middle..];
-    let end = edit::within(frame.a as usize, rest);
+    let end = little::within8(frame.a as usize, rest);
     edit::copy(&rest[..end], store);
     Session {
-        store: edit::least(end, store.len()),
-        marks: edit::least(middle, marks.len()),
+        store: little::least(end, store.len()),
+        marks: little::least(middle, marks.len()),
         scratch,
         tallies: Tallies::new(),
     }
@@ -118,7 +119,17 @@ fn offer_chunk(
     answer.tallies
 }
 
-// The part of the file that a frame names.
+// Offers each chunk, prints where they end and what they left, and answers the new tallies.
+fn walk(head: Head, before: Tallies, store: &mut [u8], marks: &mut [u8], bytes: &[u8]) -> Tallies {
+    let walked = offer_chunks(head, before, store, marks, bytes);
+    let tallies = walked.tallies;
+    print::field(b"walked ", walked.end as u64);
+    print::line_end();
+    show(tallies, store, marks);
+    tallies
+}
+
+// The part of the file that a frame names, as one chunk or as all that stand in it.
 fn offer_part(
     frame: Frame,
     head: Head,
@@ -127,10 +138,13 @@ fn offer_part(
     marks: &mut [u8],
     file: &[u8],
 ) -> Tallies {
-    let start = edit::within(frame.a as usize, file);
+    let start = little::within8(frame.a as usize, file);
     let rest = &file[start..];
-    let end = edit::within(frame.b as usize, rest);
-    offer_chunk(head, tallies, store, marks, &rest[..end])
+    let end = little::within8(frame.b as usize, rest);
+    if frame.opcode == frame::OFFER {
+        return offer_chunk(head, tallies, store, marks, &rest[..end]);
+    }
+    walk(head, tallies, store, marks, &rest[..end])
 }
 
 fn print_count(count: u32) {
@@ -182,7 +196,7 @@ fn serve_lent(
     let opcode = frame.opcode;
     match opcode {
         frame::SET_TALLY => with_tally(tallies, frame.a, frame.b),
-        frame::OFFER => offer_part(frame, head, tallies, store, marks, file),
+        frame::OFFER | frame::OFFER_CHUNKS => offer_part(frame, head, tallies, store, marks, file),
         frame::SHOW => {
             show(tallies, store, marks);
             tallies
@@ -210,8 +224,8 @@ pub(crate) fn serve(
         return lend(frame, scratch, store, marks, file);
     }
     let tallies = session.tallies;
-    let store_end = edit::within(session.store, store);
-    let marks_end = edit::within(session.marks, marks);
+    let store_end = little::within8(session.store, store);
+    let marks_end = little::within8(session.marks, marks);
     Session {
         store: session.store,
         marks: session.marks,

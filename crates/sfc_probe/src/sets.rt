@@ -49,7 +49,7 @@ fn put_record(text: &mut [u8], digest: &[u8], told: Told, bytes: u8, numbers: u8
     little::write64(text, 32, answer);
     little::write64(text, 40, told.block);
     little::write64(text, 48, told.place);
-    let at = edit::within(56, text);
+    let at = little::within8(56, text);
     edit::copy(&hash, &mut text[at..]);
 }
 
@@ -100,7 +100,7 @@ fn try_sets(
     out: &mut [u8],
     digest: &mut [u8],
 ) -> usize {
-    let count = edit::least(frame.b as usize, MOST);
+    let count = little::least(frame.b as usize, MOST);
     let mut given = 0;
     let mut set = 0;
     while set < count {
@@ -125,8 +125,8 @@ pub(crate) fn sweep(
     let mut seen = io::large_buffer();
     let mut copied = io::buffer();
     let mut digest = [0u8; 32];
-    let seen_end = edit::within(store.len(), &seen);
-    let copied_end = edit::within(marks.len(), &copied);
+    let seen_end = little::within8(store.len(), &seen);
+    let copied_end = little::within8(marks.len(), &copied);
     let given = try_sets(
         frame,
         head,
@@ -138,7 +138,7 @@ pub(crate) fn sweep(
         out,
         &mut digest,
     );
-    print::field(b"sets ", edit::least(frame.b as usize, MOST) as u64);
+    print::field(b"sets ", little::least(frame.b as usize, MOST) as u64);
     print::field(b" given ", given as u64);
     print::bytes(b" ", &digest);
     print::line_end();

@@ -9,7 +9,7 @@ use sfc::write;
 // The 16 bytes at 8.
 fn uuid_of(inputs: &[u8]) -> [u8; 16] {
     let mut uuid = [0u8; 16];
-    let start = edit::within(8, inputs);
+    let start = little::within8(8, inputs);
     edit::copy(&inputs[start..], &mut uuid);
     uuid
 }
@@ -27,7 +27,7 @@ fn facts_of(inputs: &[u8]) -> FileFacts {
 
 // Puts the numbers of four bytes to the front of a list, as far as both go, and answers how many.
 fn put_indices(bytes: &[u8], list: &mut [u32]) -> usize {
-    let count = edit::least(bytes.len() / 4, list.len());
+    let count = little::least(bytes.len() / 4, list.len());
     let mut i = 0;
     while i < count {
         list[i] = little::read32(bytes, 4 * i);
@@ -39,11 +39,11 @@ fn put_indices(bytes: &[u8], list: &mut [u32]) -> usize {
 // The list, the fields and the content, behind the name.
 fn write_behind(inputs: &[u8], name: &[u8], rest: &[u8], out: &mut [u8]) -> usize {
     let mut room = [0u32; 2048];
-    let list_end = edit::within(4 * little::read16(inputs, 38) as usize, rest);
+    let list_end = little::within8(4 * little::read16(inputs, 38) as usize, rest);
     let behind = &rest[list_end..];
     let count = put_indices(&rest[..list_end], &mut room);
-    let indices = crate::note::within(count, &room);
-    let fields_end = edit::within(little::read32(inputs, 40) as usize, behind);
+    let indices = little::within32(count, &room);
+    let fields_end = little::within8(little::read32(inputs, 40) as usize, behind);
     let written = write(
         facts_of(inputs),
         &behind[fields_end..],
@@ -56,19 +56,19 @@ fn write_behind(inputs: &[u8], name: &[u8], rest: &[u8], out: &mut [u8]) -> usiz
 }
 
 fn write_from(inputs: &[u8], out: &mut [u8]) -> usize {
-    let start = edit::within(44, inputs);
+    let start = little::within8(44, inputs);
     let rest = &inputs[start..];
-    let name_end = edit::within(little::read16(inputs, 36) as usize, rest);
+    let name_end = little::within8(little::read16(inputs, 36) as usize, rest);
     write_behind(inputs, &rest[..name_end], &rest[name_end..], out)
 }
 
 // Writes into an output of a bytes; a file that was written becomes the file.
 pub(crate) fn become_written(frame: Frame, sizes: Sizes, file: &mut [u8]) -> Sizes {
     let mut room = io::large_buffer();
-    let end = edit::within(frame.a as usize, &room);
+    let end = little::within8(frame.a as usize, &room);
     let out = &mut room[..end];
-    edit::set_all(out, 0xA5);
-    let inputs = edit::within(sizes.file, file);
+    little::fill8(out, 0xA5);
+    let inputs = little::within8(sizes.file, file);
     let length = write_from(&file[..inputs], out);
     print::output(out);
     print::line_end();

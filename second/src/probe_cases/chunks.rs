@@ -138,3 +138,28 @@ pub fn chunk_order(script: &mut Script) {
     script.check(at, 92);
     script.restore();
 }
+
+/// A head with other identifiers or another UUID than its file's, held to chunks that have its own and to chunks that have not.
+pub fn other_heads(script: &mut Script) {
+    let plan = plan(20, 8, 2);
+    script.load(&plan.file());
+    let whole @ (at, length) = places(&plan)[1];
+    let mut numbers = vec![];
+    for value in [0, 1, 2, 0x80, 0xFF] {
+        numbers.push((4, value, 0, Byte(at + in_chunk::ERASURE, value as u8)));
+        numbers.push((5, value, 0, Byte(at + in_chunk::COMPRESSION, value as u8)));
+    }
+    for place in [0, 7, 15, 16] {
+        numbers.push((6, place, 0xAA, Byte(at + in_chunk::UUID + place, 0xAA)));
+    }
+    for (which, a, b, edit) in numbers {
+        script.say(&format!("a head with number {which} at {a}, {b}"));
+        script.read();
+        script.frame(SET_HEAD, which, a, b);
+        script.check(at, length);
+        script.chunk("a chunk with the same", whole, &[edit], &[]);
+        script.frame(BEGIN, 0, 40, 5);
+        script.frame(OFFER_CHUNKS, 0, places(&plan)[0].0, 5 * length);
+        script.frame(WRITE_NOTE, 0, 31, 0);
+    }
+}

@@ -1,8 +1,8 @@
 //! Extension fields: their order, their ends, and the rule of each tag.
-use super::headers::{at, shape};
+use super::headers::{at, breaches, breakable, shape};
 use crate::probe::*;
 use crate::script::*;
-use crate::writer::Plan;
+use crate::writer::{encoded, Plan};
 
 /// A header with these bytes after its priority list.
 fn extended(flags: u16, extension: &[u8]) -> Vec<u8> {
@@ -92,7 +92,7 @@ pub fn extension_rules(script: &mut Script) {
     }
 }
 
-/// Fields looked up: in a good header, in cut ones, and in one that is refused.
+/// Fields looked up: in a good header, with another list before them, and in headers that are refused.
 pub fn lookups(script: &mut Script) {
     let file = super::headers::every_rule().file();
     script.say("each field of a header looked up, and tags that it lacks");
@@ -100,28 +100,50 @@ pub fn lookups(script: &mut Script) {
     for tag in [0, 1, 2, 0x10, 0x11, 0x12, 0x20, 0x30, 0xFF, 0x100, 0x104, 0x105, 0x7FFF, 0x8000, 0xFFFE, 0xFFFF] {
         script.frame(FIND_FIELD, 0, tag, 0);
     }
-    script.say("the first, a middle and the last field of cut inputs");
-    for length in [0, 11, 12, 342, 343, 354, 355, 360, 361, 378, 389, 429, 430, 526, 532, 533] {
+    script.say("the first and the last field of cut inputs");
+    for length in [0, 11, 12, 343, 361, 429, 532, 533, 596, 597] {
         script.edit(&[Cut(length)]);
-        for tag in [0x0000, 0x0020, 0xFFFF] {
+        for tag in [0x0000, 0xFFFF] {
             script.frame(FIND_FIELD, 0, tag, 0);
         }
         script.restore();
     }
-    script.say("the last field with other H");
-    for length in [0, 330, 331, 520, 521, 522, 65_536, 65_537] {
-        script.edit(&[Four(at::H, length)]);
-        script.frame(FIND_FIELD, 0, 0xFFFF, 0);
-        script.restore();
-    }
-    script.say("the first field with other P");
-    for count in [0, 2, 3, 4, 46, 47, 48, 65_535] {
-        script.edit(&[Two(at::P, count)]);
-        script.frame(FIND_FIELD, 0, 0, 0);
-        script.restore();
+    changed_lookups(script);
+    for priorities in [vec![], vec![1], vec![3, 2, 1, 0]] {
+        script.say(&format!("a field after {} indices", priorities.len()));
+        script.load(&Plan { priorities, fields: encoded(&[(7, text(5))]), ..plan(14, 4, 1) }.file());
+        for tag in [6, 7, 8] {
+            script.frame(FIND_FIELD, 0, tag, 0);
+        }
     }
     extension(script, "the first of equal tags", 0, &[field(0x0200, 3, 3), field(0x0200, 1, 1)].concat());
     script.frame(FIND_FIELD, 0, 0x0200, 0);
+}
+
+/// The last field with other H and the first with other P, each as it is and sealed; then any in a header of each refusal.
+fn changed_lookups(script: &mut Script) {
+    let mut look_up = |title: String, edit: Edit, tag: usize| {
+        script.say(&title);
+        script.edit(&[edit]);
+        script.frame(FIND_FIELD, 0, tag, 0);
+        script.seal();
+        script.frame(FIND_FIELD, 0, tag, 0);
+        script.restore();
+    };
+    for length in [0, 330, 331, 515, 520, 521, 522, 65_536, 65_537] {
+        look_up(format!("the last field with H {length}"), Four(at::H, length), 0xFFFF);
+    }
+    for count in [0, 2, 3, 4, 46, 47, 48, 65_535] {
+        look_up(format!("the first field with P {count}"), Two(at::P, count), 0);
+    }
+    let file = breakable().file_around(&[]);
+    script.load(&file);
+    for breach in breaches(file.len()) {
+        script.say(&format!("a field of a header with {}", breach.number));
+        script.break_header(&breach.before, &breach.after);
+        script.frame(FIND_FIELD, 0, 0x0030, 0);
+        script.restore();
+    }
 }
 
 /// The offset index of the most blocks that the house takes, and of one block fewer.

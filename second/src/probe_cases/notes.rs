@@ -22,11 +22,13 @@ fn call(script: &mut Script, opcode: u8, rooms: &[usize]) {
     }
 }
 
-/// All three calls, with outputs that suffice.
+/// All calls, with outputs that suffice where those of the three numbers do.
 fn call_all(script: &mut Script, bytes: usize, numbers: usize, note: usize) {
     call(script, PREFIX, &[bytes]);
     call(script, LIST_MISSING, &[numbers]);
+    call(script, LIST_RANGES, &[2 * numbers]);
     call(script, WRITE_NOTE, &[note]);
+    script.frame(COUNT_MARKS, 0, 0, 0);
 }
 
 /// Keeps the head of a plan, and makes the file the memory of its session: marks, and a store of bytes that differ.
@@ -63,11 +65,14 @@ pub fn worked_note(script: &mut Script) {
     }
     call(script, PREFIX, &[0, 3, 4, 5]);
     call(script, LIST_MISSING, &[0, 1, 2, 3]);
+    call(script, LIST_RANGES, &[0, 2, 3, 4, 5]);
     call(script, WRITE_NOTE, &[0, 22, 23, 38, 39, 40]);
+    script.frame(COUNT_MARKS, 0, 0, 0);
     script.say("with 1 enough are held, and the prefix goes up to 3");
     stage.offer(script, 1);
     call(script, PREFIX, &[11, 12, 13]);
     call(script, LIST_MISSING, &[0, 1]);
+    call(script, LIST_RANGES, &[0, 1]);
     call(script, WRITE_NOTE, &[22, 23, 24]);
     script.say("with 3 the prefix is the content, and still unverified");
     stage.offer(script, 3);
@@ -120,6 +125,7 @@ pub fn sizes(script: &mut Script) {
         let end = size.min(4 * leading);
         call(script, PREFIX, &[end.saturating_sub(1), end, end + 1]);
         call(script, LIST_MISSING, &[0, 1, 2]);
+        call(script, LIST_RANGES, &[0, 1, 2, 3]);
         call(script, WRITE_NOTE, &[22, 23, 30, 31, 32]);
     }
 }
@@ -179,17 +185,21 @@ pub fn largest_session(script: &mut Script) {
     lend(script, 2047, 2, &marks);
     call(script, PREFIX, &[0, 1]);
     call(script, LIST_MISSING, &[511, 512]);
+    call(script, LIST_RANGES, &[1023, 1024]);
     call(script, WRITE_NOTE, &[4119]);
+    script.frame(COUNT_MARKS, 0, 0, 0);
     script.say("1,023 are held, the last not: the longest prefix with a gap");
     script.load(&[vec![1; 1023], vec![0; 33], text(2112)].concat());
     script.frame(LEND, 0, 2112, 1056);
     call(script, PREFIX, &[2046]);
     call(script, LIST_MISSING, &[1]);
+    call(script, LIST_RANGES, &[2]);
     call(script, WRITE_NOTE, &[32]);
     script.say("none is held");
     script.load(&[vec![0; 1056], text(2112)].concat());
     script.frame(LEND, 0, 2112, 1056);
     call(script, LIST_MISSING, &[1023, 1024]);
+    call(script, LIST_RANGES, &[1, 2]);
     call(script, WRITE_NOTE, &[30, 31]);
     let even: Vec<(u32, u32)> = (0..513).map(|index| (2 * index, 2 * index)).collect();
     read(script, "512 ranges fill the output, 513 do not fit it", &note(&UUID, &even[..512]), &[1023, 1024]);

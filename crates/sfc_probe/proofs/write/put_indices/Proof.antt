@@ -3,8 +3,8 @@ use Prim.Native.Nat.{_≤_, _-_, _*_}
 use mathlib.Core.Path.{_≡_}
 use lib.ListN.{length}
 use borrow.Author.Needs.{needs}
-use Rattle.sfc_probe.proofs.writing.put_indices.Statement.{statement}
-use Rattle.sfc_probe.proofs.writing.put_indices.Tie as tie
+use Rattle.sfc_probe.proofs.write.put_indices.Statement.{statement}
+use Rattle.sfc_probe.proofs.write.put_indices.Tie as tie
 
 abbrev Inv-loop : tie.InvT-loop
 Inv-loop bytes list₀ count i₀ list i = (count * 4 ≤ length bytes) × (count ≤ length list₀) × (length list ≡ length list₀)
