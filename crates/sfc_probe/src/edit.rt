@@ -38,7 +38,7 @@ fn load(count: usize, file: &mut [u8], kept: &mut [u8]) -> Sizes {
     }
 }
 
-// Bytes of one value behind the file's end, as far as the buffer goes.
+// Bytes of one value after the file's end, as far as the buffer goes.
 fn grow(count: usize, value: u8, sizes: Sizes, file: &mut [u8]) -> Sizes {
     let start = little::within8(sizes.file, file);
     let rest = &mut file[start..];
@@ -50,7 +50,7 @@ fn grow(count: usize, value: u8, sizes: Sizes, file: &mut [u8]) -> Sizes {
     }
 }
 
-// The bytes of a part behind the file's end, as far as the buffer goes.
+// The bytes of a part after the file's end, as far as the buffer goes.
 fn repeat(frame: Frame, sizes: Sizes, file: &mut [u8]) -> Sizes {
     let mut part = io::large_buffer();
     let length = little::within8(sizes.file, file);

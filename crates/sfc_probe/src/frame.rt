@@ -1,4 +1,4 @@
-// The frames: an opcode, a small number (one byte each), and two 32-bit numbers a and b, little-endian; behind some of them a
+// The frames: an opcode, a small number (one byte each), and two 32-bit numbers a and b, little-endian; after some of them a
 // bytes of data. A number that is out of range asks for as much as there is.
 use crate::print;
 use libc::STDIN_FILENO;
@@ -16,9 +16,9 @@ pub(crate) const KEEP: u8 = 11;
 pub(crate) const RESTORE: u8 = 12;
 // The file is cut to its first a bytes.
 pub(crate) const CUT: u8 = 13;
-// The file gets a bytes of the small number behind its end.
+// The file gets a bytes of the small number after its end.
 pub(crate) const GROW: u8 = 14;
-// The file gets the b bytes at a behind its end as well.
+// The file gets the b bytes at a after its end as well.
 pub(crate) const REPEAT: u8 = 15;
 
 // Byte a becomes the small number; the two or four bytes from a on become the number b.
@@ -69,7 +69,7 @@ pub(crate) const SET_TALLY: u8 = 51;
 pub(crate) const OFFER: u8 = 52;
 // Marks, store and tallies are shown.
 pub(crate) const SHOW: u8 = 53;
-// A session begins with the first b bytes of the file as its marks and the a bytes behind them as its store.
+// A session begins with the first b bytes of the file as its marks and the a bytes after them as its store.
 pub(crate) const LEND: u8 = 54;
 // Later hand-outs and block requests get a scratch of a bytes and b numbers.
 pub(crate) const SCRATCH: u8 = 55;
@@ -113,7 +113,7 @@ pub(crate) const WRITE: u8 = 72;
 
 // The file's listing is asked for, with an output of a bytes. The piece of lent memory that the small number names (1 store,
 // 2 marks, 3 scratch, 4 its numbers, 5 content, 6 bounds) has b parts in place of the right number; with 7 the file has b
-// bytes, of zeros behind its end, and may be a byte longer than else. Memory and output have a pattern before the call;
+// bytes, of zeros after its end, and may be a byte longer than else. Memory and output have a pattern before the call;
 // printed are what became of them, and the text.
 pub(crate) const LISTING: u8 = 75;
 

@@ -2,7 +2,7 @@
 use crate::edit;
 use crate::frame;
 use crate::frame::Frame;
-use crate::handout;
+use crate::hand_out;
 use crate::print;
 use crate::run::Run;
 use sfc::Checked;
@@ -33,7 +33,7 @@ fn print_name(name: [u8; 255], length: u8) {
     let end = little::within8(length as usize, &name);
     print::bytes(b" name=", &name[..end]);
     print::text(b" then ");
-    handout::print_state(handout::bytes_state(&name[end..]));
+    hand_out::print_state(hand_out::bytes_state(&name[end..]));
 }
 
 fn print_hash(hash: [u8; 32]) {

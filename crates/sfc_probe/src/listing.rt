@@ -1,7 +1,7 @@
 // The frame that asks for the listing of the file.
 use crate::edit;
 use crate::frame::Frame;
-use crate::handout;
+use crate::hand_out;
 use crate::print;
 use sfc::Written;
 use sfc_listing::listing;
@@ -67,10 +67,10 @@ fn bounds_state(bounds: &[u32]) -> u8 {
 
 fn print_piece(label: &[u8], state: u8) {
     print::text(label);
-    handout::print_state(state);
+    hand_out::print_state(state);
 }
 
-// The call's answer, what became of the output behind the text and of the memory, and the text.
+// The call's answer, what became of the output after the text and of the memory, and the text.
 fn report(
     written: Written,
     store: &[u8],
@@ -83,12 +83,12 @@ fn report(
 ) {
     let length = print::written(b"listed ", written);
     let end = little::within8(length, out);
-    print_piece(b" behind ", handout::bytes_state(&out[end..]));
-    print_piece(b" desk ", handout::bytes_state(store));
-    print_piece(b" ", handout::bytes_state(marks));
-    print_piece(b" ", handout::bytes_state(scratch));
-    print_piece(b" ", handout::numbers_state(numbers));
-    print_piece(b" ", handout::bytes_state(content));
+    print_piece(b" behind ", hand_out::bytes_state(&out[end..]));
+    print_piece(b" desk ", hand_out::bytes_state(store));
+    print_piece(b" ", hand_out::bytes_state(marks));
+    print_piece(b" ", hand_out::bytes_state(scratch));
+    print_piece(b" ", hand_out::numbers_state(numbers));
+    print_piece(b" ", hand_out::bytes_state(content));
     print_piece(b" ", bounds_state(bounds));
     print::line_end();
     print::text(&out[..end]);

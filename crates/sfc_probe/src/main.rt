@@ -3,7 +3,7 @@
 mod chunk;
 mod edit;
 mod frame;
-mod handout;
+mod hand_out;
 mod header;
 mod known;
 mod listing;

@@ -2,8 +2,8 @@
 use crate::edit;
 use crate::frame;
 use crate::frame::Frame;
-use crate::handout;
-use crate::handout::Scratch;
+use crate::hand_out;
+use crate::hand_out::Scratch;
 use crate::known;
 use crate::print;
 use sfc::Head;
@@ -180,7 +180,7 @@ fn show(tallies: Tallies, store: &[u8], marks: &[u8]) {
 // Frames that ask what a session knows or gives back.
 fn ask(frame: Frame, head: Head, scratch: Scratch, store: &[u8], marks: &[u8]) {
     known::ask(frame, head, store, marks);
-    handout::ask(frame, head, scratch, store, marks);
+    hand_out::ask(frame, head, scratch, store, marks);
 }
 
 // A frame on store and marks as long as they are lent.
@@ -216,7 +216,7 @@ pub(crate) fn serve(
     marks: &mut [u8],
     file: &[u8],
 ) -> Session {
-    let scratch = handout::scratch_after(frame, session.scratch);
+    let scratch = hand_out::scratch_after(frame, session.scratch);
     if frame.opcode == frame::BEGIN {
         return begin(frame, scratch, store, marks);
     }

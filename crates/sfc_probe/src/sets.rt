@@ -1,8 +1,8 @@
 // One call for each of many sets of marks.
 use crate::edit;
 use crate::frame::Frame;
-use crate::handout;
-use crate::handout::Told;
+use crate::hand_out;
+use crate::hand_out::Told;
 use crate::print;
 use sfc::Head;
 
@@ -71,9 +71,9 @@ fn try_set(
     out: &mut [u8],
     digest: &mut [u8],
 ) -> bool {
-    let told = handout::call(frame, head, store, marks, scratch, numbers, out);
-    let bytes = handout::bytes_state(scratch);
-    add_to(digest, told, bytes, handout::numbers_state(numbers), out);
+    let told = hand_out::call(frame, head, store, marks, scratch, numbers, out);
+    let bytes = hand_out::bytes_state(scratch);
+    add_to(digest, told, bytes, hand_out::numbers_state(numbers), out);
     told.answer == 0
 }
 

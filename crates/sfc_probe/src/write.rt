@@ -36,20 +36,20 @@ fn put_indices(bytes: &[u8], list: &mut [u32]) -> usize {
     count
 }
 
-// The list, the fields and the content, behind the name.
-fn write_behind(inputs: &[u8], name: &[u8], rest: &[u8], out: &mut [u8]) -> usize {
+// The list, the fields and the content, after the name.
+fn write_after_name(inputs: &[u8], name: &[u8], rest: &[u8], out: &mut [u8]) -> usize {
     let mut room = [0u32; 2048];
     let list_end = little::within8(4 * little::read16(inputs, 38) as usize, rest);
-    let behind = &rest[list_end..];
+    let after_list = &rest[list_end..];
     let count = put_indices(&rest[..list_end], &mut room);
     let indices = little::within32(count, &room);
-    let fields_end = little::within8(little::read32(inputs, 40) as usize, behind);
+    let fields_end = little::within8(little::read32(inputs, 40) as usize, after_list);
     let written = write(
         facts_of(inputs),
-        &behind[fields_end..],
+        &after_list[fields_end..],
         name,
         &room[..indices],
-        &behind[..fields_end],
+        &after_list[..fields_end],
         out,
     );
     print::written(b"written ", written)
@@ -59,7 +59,7 @@ fn write_from(inputs: &[u8], out: &mut [u8]) -> usize {
     let start = little::within8(44, inputs);
     let rest = &inputs[start..];
     let name_end = little::within8(little::read16(inputs, 36) as usize, rest);
-    write_behind(inputs, &rest[..name_end], &rest[name_end..], out)
+    write_after_name(inputs, &rest[..name_end], &rest[name_end..], out)
 }
 
 // Writes into an output of a bytes; a file that was written becomes the file.
