@@ -1,4 +1,4 @@
--- The table of numbers (specs/answer/Numbered.antt): two computed tests. That each reason has a row is proved with `listed_number`,
+-- The table of numbers (specs/answer/Numbered.antt): three computed tests. That each reason has a row is proved with `listed_number`,
 -- whose arms are all reasons. Assumes nothing.
 use mathlib.Core.Path.{refl}
 use Rattle.little.specs.Runs.{risingFrom}
@@ -6,4 +6,4 @@ use Rattle.sfc.specs.answer.Numbered.{Numbered}
 
 pub numbered : Numbered
 unfolding risingFrom
-numbered = record { rising = refl; number-back = refl }
+numbered = record { rising = refl; paper-back = refl; number-back = refl }
