@@ -1,5 +1,5 @@
--- `running-any-cut` and `fed-bytes`: however a text is cut, the finish is its hash; and a feed within the limit. Crates above
--- cite this file. Assumes nothing.
+-- `running-any-cut` and `fed-bytes`: however a text is cut, the finish is its hash; and a feed within the limit. Assumes
+-- nothing.
 use mathlib.Core.Path.{_≡_, refl, sym, _∙_}
 use Prim.Native.Nat.{ℕ, suc, _+_, _≤_}
 use native.Mathlib.Omega.{arith}

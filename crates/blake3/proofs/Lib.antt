@@ -1,13 +1,15 @@
--- The laws that the proofs of the crate's functions cite, and the proofs of the theorems stated in specs/. Public are the two
--- files that crates above cite.
+-- The laws that other crates cite (Laws) and the proofs of the theorems that specs/Running.antt and specs/Tree.antt state (AnyCut,
+-- Refusals, Splits); all else is for this crate alone.
+pub mod Laws
+mod HashLength
 mod CompressLaws
 mod Splits
 mod StackLaws
-pub mod RunningLaws
+mod RunningLaws
 mod FeedLaws
 mod Heights
 mod Waiting
 mod Holding
-pub mod AnyCut
+mod AnyCut
 mod TwoParts
 mod Refusals

@@ -1,4 +1,4 @@
--- Bytes fed one after the other are bytes fed at once. Crates above cite this file. Assumes nothing.
+-- Bytes fed one after the other are bytes fed at once. Assumes nothing.
 use mathlib.Core.Path.{_≡_, refl}
 use Prim.Native.Nat.{ℕ}
 use mathlib.Core.List.{List, [], _∷_, _++_}

@@ -11,7 +11,7 @@ use lib.Dec.{leb, ltb}
 use lib.Pow.{pow-pos, pow-mono}
 use lib.ListN.{length, take, drop, length-drop}
 use lib.Seq.{take-all, length-take-le}
-use Rattle.little.proofs.PartLaws.{part-rest}
+use Rattle.little.proofs.Laws.{partLaws}
 use mathlib.Core.List.{List}
 use Rattle.blake3.specs.Compress.{compressed}
 use Rattle.blake3.specs.Tree.{blockOf, blockWords, startFlag, chain, piece, parent, doubled, leftPieces, Largest, SplitsAtLargest, tree, DepthEnough, treeOf}
@@ -167,7 +167,7 @@ unfolding piece
 piece-made i root k at xs ea h t e₁ e₂ e₃ e₄ =
     let e : k ≡ (length xs - 1) / 64 = omega arith in
     let s : length (drop at xs) ≤ 64 = omega (arith, length-drop at xs) in
-    let c : take (length xs - at) (drop at xs) ≡ blockOf xs k = part-rest xs at ∙ sym (take-all 64 (drop at xs) s) ∙ ap (λ (n : ℕ). take 64 (drop n xs)) ea in
+    let c : take (length xs - at) (drop at xs) ≡ blockOf xs k = partLaws .part-rest xs at ∙ sym (take-all 64 (drop at xs) s) ∙ ap (λ (n : ℕ). take 64 (drop n xs)) ea in
     rw (e₄, e₁, e₂, c, e₃, ea) (ap (λ (k : ℕ). compressed (chain i k xs) (blockWords (blockOf xs k)) i (length xs - k * 64) (startFlag k + 2 + root)) e)
 
 -- what the loop over powers of two leaves

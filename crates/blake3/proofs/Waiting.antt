@@ -8,7 +8,7 @@ use lib.Dec.{eqb}
 use lib.ListN.{length, drop, length-drop}
 use mathlib.Core.List.{List, _++_}
 use Rattle.little.specs.Parts.{part, put}
-use Rattle.little.proofs.PartLaws.{length-put, part-put, part-put-apart}
+use Rattle.little.proofs.Laws.{putLaws}
 use mathlib.Core.Logic.{inl}
 use Rattle.blake3.specs.Compress.{compressed, folded}
 use Rattle.blake3.specs.Tree.{piece, parent}
@@ -63,11 +63,11 @@ module _ (h : ℕ) (s cv : List ℕ) (eight : length cv ≡ 8) (full : length s 
 
   slot-same : slot h (put s (h * 8) cv) ≡ cv
   unfolding slot
-  slot-same = ap (λ (n : ℕ). part (put s (h * 8) cv) (h * 8) n) (sym eight) ∙ part-put s (h * 8) cv fits
+  slot-same = ap (λ (n : ℕ). part (put s (h * 8) cv) (h * 8) n) (sym eight) ∙ putLaws .part-put s (h * 8) cv fits
 
   slot-other : (k : ℕ) → h < k → k < 30 → slot k (put s (h * 8) cv) ≡ slot k s
   unfolding slot
-  slot-other k lt top = part-put-apart s (h * 8) cv fits (k * 8) 8 (omega arith) (inl (omega arith))
+  slot-other k lt top = putLaws .part-put-apart s (h * 8) cv fits (k * 8) 8 (omega arith) (inl (omega arith))
 
   waits-stored : (f k t i : ℕ) (xs : List ℕ) → h < k → f + k ≤ 30 → Waits f k t i s xs → Waits f k t i (put s (h * 8) cv) xs
   unfolding Waits
@@ -159,7 +159,7 @@ length-pushed (suc f) h t s cv ef ls lc =
     let fits : h * 8 + length cv ≤ length s = omega arith in
     let e : f + suc h ≡ 30 = omega arith in
     either (eqb (t % 2) 0)
-    (λ b. rw b (length-put s (h * 8) cv fits ∙ ls))
+    (λ b. rw b (putLaws .length-put s (h * 8) cv fits ∙ ls))
     (λ b. rw b (length-pushed f (suc h) (t / 2) s (parent 0 (slot h s) cv) e ls (parent-eight 0 (slot h s) cv)))
 
 -- ---- the end

@@ -7,7 +7,7 @@ use lib.ListN.{length}
 use lib.Dec.{ltb, eqb}
 use borrow.Author.Tests.{ltb-true, eqb-true, not-false}
 use Rattle.cauchy.specs.declared.Answer.{Answer}
-use Rattle.little.proofs.TestLaws.{or-false}
+use Rattle.little.proofs.Laws.{testLaws}
 use Rattle.cauchy.specs.Code.{recoveryBlock}
 use Rattle.cauchy.specs.Calls.{wrongShape, wrongLent, Recovered, recoverySpec, wrongParts, partsSpec}
 
@@ -28,8 +28,8 @@ module _ (n m s k : ℕ) (blocks out : List ℕ) where
   pub lent-right : wrongLent n m s k blocks out ≡ false → (k < m) × (length blocks ≡ n * s) × (length out ≡ s)
   unfolding wrongLent
   lent-right e =
-      let a = or-false _ (not (eqb (length out) s)) e in
-      let b = or-false (not (ltb k m)) (not (eqb (length blocks) (n * s))) (a .0) in
+      let a = testLaws .or-false _ (not (eqb (length out) s)) e in
+      let b = testLaws .or-false (not (ltb k m)) (not (eqb (length blocks) (n * s))) (a .0) in
       (ltb-true k m (not-false (ltb k m) (b .0)), eqb-true (length blocks) (n * s) (not-false (eqb (length blocks) (n * s)) (b .1)), eqb-true (length out) s (not-false (eqb (length out) s) (a .1)))
 
 module _ (n m s k : ℕ) (front last out : List ℕ) where
@@ -49,9 +49,9 @@ module _ (n m s k : ℕ) (front last out : List ℕ) where
   pub parts-right : wrongParts n m s k front last out ≡ false → (k < m) × (length front ≡ (n - 1) * s) × (length last ≡ s) × (length out ≡ s)
   unfolding wrongParts
   parts-right e =
-      let a = or-false _ (not (eqb (length out) s)) e in
-      let b = or-false _ (not (eqb (length last) s)) (a .0) in
-      let c = or-false (not (ltb k m)) (not (eqb (length front) ((n - 1) * s))) (b .0) in (
+      let a = testLaws .or-false _ (not (eqb (length out) s)) e in
+      let b = testLaws .or-false _ (not (eqb (length last) s)) (a .0) in
+      let c = testLaws .or-false (not (ltb k m)) (not (eqb (length front) ((n - 1) * s))) (b .0) in (
         ltb-true k m (not-false (ltb k m) (c .0)),
         eqb-true (length front) ((n - 1) * s) (not-false (eqb (length front) ((n - 1) * s)) (c .1)),
         eqb-true (length last) s (not-false (eqb (length last) s) (b .1)),

@@ -1,7 +1,8 @@
--- The proofs. Another crate sees the theorems, the worked sums and what ForUpperFloors passes on; all else is for this crate alone.
+-- The proofs. Another crate sees the theorems, the worked sums and the laws that specs/Laws.antt states; all else is for this
+-- crate alone.
 pub mod Theorems
 pub mod Worked
-pub mod ForUpperFloors
+pub mod Laws
 mod algebra
 mod blocks
 mod decoding

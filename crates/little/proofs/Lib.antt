@@ -1,7 +1,8 @@
--- The shared facts about tests, parts of lists and fields, and the proofs of the statements in specs/.
-pub mod TestLaws
-pub mod PartLaws
-pub mod RunLaws
-pub mod ListLaws
-pub mod FieldLaws
+-- The laws that other crates cite (Laws) and why an equation admits a single answer (Promise); all else is for this crate alone.
+pub mod Laws
 pub mod Promise
+mod TestLaws
+mod PartLaws
+mod RunLaws
+mod ListLaws
+mod FieldLaws

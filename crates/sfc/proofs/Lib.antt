@@ -1,21 +1,5 @@
--- The laws that other crates cite, which their rooms would hide, and the proofs of the demands. A room's own laws stand beside
--- its functions.
-pub mod demand
-pub use Rattle.sfc.proofs.answer.CheckLaws
-pub use Rattle.sfc.proofs.answer.RefusalLaws
-pub use Rattle.sfc.proofs.format.ChunkLaws
-pub use Rattle.sfc.proofs.format.LimitLaws
-pub use Rattle.sfc.proofs.session.MarkLaws
-pub use Rattle.sfc.proofs.session.OfferLaws
-pub use Rattle.sfc.proofs.session.DifferentLaws
-pub use Rattle.sfc.proofs.note.NoteExact
-pub use Rattle.sfc.proofs.note.NoteLaws
-pub use Rattle.sfc.proofs.note.MissingLaws
-pub use Rattle.sfc.proofs.writing.FillLaws
-pub use Rattle.sfc.proofs.writing.FileLaws
-pub use Rattle.sfc.proofs.writing.InputLaws
-pub use Rattle.sfc.proofs.writing.HeaderBack
-pub use Rattle.sfc.proofs.writing.ChunkBack
-pub use Rattle.sfc.proofs.note.RangesFew
-pub use Rattle.sfc.proofs.session.SessionLaws
-pub use Rattle.sfc.proofs.session.RightLaws
+-- Another crate sees the theorems and the laws that specs/Laws.antt states; all else is for this crate alone. A room's own laws
+-- stand beside its functions.
+pub mod Theorems
+pub mod Laws
+mod demand

@@ -9,3 +9,4 @@ pub mod InputLaws
 pub mod FileLaws
 pub mod ChunkBack
 pub mod HeaderBack
+pub mod SixtyTheorems

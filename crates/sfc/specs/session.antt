@@ -1,7 +1,9 @@
--- A session: tallies, marks, every 71 (Lent), what an offer makes of them (Session), histories of offers, and what is proved of them (SessionTheorems).
+-- A session: tallies, marks, every 71 (Lent) and what is known once it lets something through (Right), what an offer makes of them
+-- (Session), histories of offers, and what is proved of them (SessionTheorems).
 pub mod Tallies
 pub mod Marks
 pub mod Lent
+pub mod Right
 pub mod Session
 pub mod History
 pub mod SessionTheorems

@@ -23,40 +23,42 @@ use Rattle.sfc.specs.declared.answer.written.Written.the-variants.{Bytes, Refus
 use Rattle.sfc_listing.specs.Text.{text}
 use Rattle.sfc_listing.specs.Listing.{sessionIn, lastWord, sessionText, programChecks, refusedText, listingOf, Desk, cleared, listingChecks, listed}
 use Rattle.sfc_listing.specs.Demand1.{ListingDemand}
-use Rattle.sfc.proofs.CheckLaws.{passed, good-all, refused-all, tells}
-use Rattle.sfc.proofs.SessionLaws.{number-in}
-use Rattle.sfc.proofs.RefusalLaws.{leaves, ends}
-use Rattle.sfc.proofs.demand.Demand1.{writtenSeen}
+use Rattle.sfc.proofs.Laws.{checkLaws}
 use Rattle.sfc_listing.proofs.FitLaws.{listing-fits}
+
+-- the verdict in an answer
+abbrev writtenSeen : Written → Checked
+writtenSeen (Bytes k) = Good
+writtenSeen (Refused r) = Bad r
 
 module _ (f : List ℕ) (d : Desk) (out : List ℕ) where
   told : (v : Checked) → writtenSeen (listed f d out .answer) ≡ v → verdict (listingChecks d out) ≡ v
   unfolding listed
-  told v e = tells writtenSeen Refused (Bytes (length (listingOf f))) (λ q. refl) refl (listingChecks d out) v e
+  told v e = checkLaws .tells writtenSeen Refused (Bytes (length (listingOf f))) (λ q. refl) refl (listingChecks d out) v e
 
   listing-refused : (r : Reason) → listed f d out .answer ≡ Refused r → Leaves r (71 ∷ 52 ∷ []) out (listed f d out .output) × (listed f d out .desk ≡ d)
   unfolding listed any
   listing-refused r e =
       let t = told (Bad r) (ap writtenSeen e) in
-      (leaves (listingChecks d out) r (71 ∷ 52 ∷ []) out (put out 0 (listingOf f)) (refl, (refl, tt)) t, refused-all (λ (q : Reason). d) (listingChecks d out) (cleared d) r t)
+      (checkLaws .leaves (listingChecks d out) r (71 ∷ 52 ∷ []) out (put out 0 (listingOf f)) (refl, (refl, tt)) t, checkLaws .refused-all (λ (q : Reason). d) (listingChecks d out) (cleared d) r t)
 
   listing-ends : (k : ℕ) → listed f d out .answer ≡ Bytes k → Ends k out (listed f d out .output) × (listed f d out .desk ≡ cleared d)
   unfolding listed
   listing-ends k e =
       let cs : List Check = listingChecks d out in
       let t = told Good (ap writtenSeen e) in
-      let g : _≡_ {A = Written} (Bytes (length (listingOf f))) (Bytes k) = sym (good-all Refused cs _ t) ∙ e in
+      let g : _≡_ {A = Written} (Bytes (length (listingOf f))) (Bytes k) = sym (checkLaws .good-all Refused cs _ t) ∙ e in
       let q : length (listingOf f) ≡ k = cc in
-      (ends cs out (listingOf f) k t q (omega (arith, listing-fits f, ltb-false (length out) 32768 (passed cs t .1 .0))), good-all (λ (r : Reason). d) cs (cleared d) t)
+      (checkLaws .ends cs out (listingOf f) k t q (omega (arith, listing-fits f, ltb-false (length out) 32768 (checkLaws .passed cs t .1 .0))), checkLaws .good-all (λ (r : Reason). d) cs (cleared d) t)
 
 file-refused : (f : List ℕ) (r : Reason) → verdict (programChecks (headOf (regionOf f)) f) ≡ Bad r
     → (listingOf f ≡ refusedText (numberOf r)) × (10 ≤ numberOf r) × (numberOf r ≤ 23)
 unfolding listingOf
 file-refused f r e =
     let h : Head = headOf (regionOf f) in
-    let n = number-in (λ (k : ℕ). (10 ≤ k) × (k ≤ 23)) (programChecks h f) r
+    let n = checkLaws .number-in (λ (k : ℕ). (10 ≤ k) × (k ≤ 23)) (programChecks h f) r
     ((lit≤ tt, lit≤ tt), ((lit≤ tt, lit≤ tt), ((lit≤ tt, lit≤ tt), ((lit≤ tt, lit≤ tt), ((lit≤ tt, lit≤ tt), ((lit≤ tt, lit≤ tt), ((lit≤ tt, lit≤ tt), ((lit≤ tt, lit≤ tt), ((lit≤ tt, lit≤ tt), ((lit≤ tt, lit≤ tt), ((lit≤ tt, lit≤ tt), ((lit≤ tt, lit≤ tt), ((lit≤ tt, lit≤ tt), ((lit≤ tt, lit≤ tt), ((lit≤ tt, lit≤ tt), ((lit≤ tt, lit≤ tt), ((lit≤ tt, lit≤ tt), tt))))))))))))))))) e in
-    (refused-all (λ (q : Reason). refusedText (numberOf q)) (programChecks h f) (sessionText h (sessionIn h f)) r e, n .0, n .1)
+    (checkLaws .refused-all (λ (q : Reason). refusedText (numberOf q)) (programChecks h f) (sessionText h (sessionIn h f)) r e, n .0, n .1)
 
 -- the words differ, so the last one tells how the checks ended
 decided-good : (cs : List Check) → checked cs (λ (r : Reason). cond (eqb (numberOf r) 51) (text "hash differs") (text "incomplete")) (text "complete") ≡ text "complete" → verdict cs ≡ Good

@@ -10,7 +10,7 @@ use lib.Dec.{eqb, ltb}
 use lib.ListN.{length, take}
 use lib.Seq.{length-take-le}
 use Rattle.little.specs.Parts.{part}
-use Rattle.little.proofs.TestLaws.{or-false}
+use Rattle.little.proofs.Laws.{testLaws}
 use Rattle.little.specs.Runs.{zeros}
 use Rattle.sfc.specs.answer.Numbers.{verdict, numberOf}
 use Rattle.sfc.specs.format.Header.{lengthField, regionOf, headOf, headerChecks, refusedHeader, acceptedHeader, readHeader}
@@ -26,9 +26,8 @@ use Rattle.sfc.specs.declared.answer.reason.Reason.the-variants.{Lent, OutputSh
 use Rattle.sfc.specs.declared.answer.reason.Checked.{Checked}
 use Rattle.sfc.specs.declared.answer.reason.Checked.the-variants.{Good, Refused}
 use Rattle.sfc.specs.declared.answer.written.Written.the-variants.{Bytes, Refused as Unwritten}
-use Rattle.sfc.proofs.CheckLaws.{passed, good-then, refused-then, good-all, tells}
-use Rattle.sfc.proofs.MarkLaws.{RightShape, right-shape}
-use Rattle.sfc.proofs.RightLaws.{accepted-shape}
+use Rattle.sfc.proofs.Laws.{checkLaws, lentLaws}
+use Rattle.sfc.specs.session.Right.{RightShape}
 
 -- what was printed, under another name
 pub printed-as : (r : ℕ) (before after : List ℕ) {t u : List ℕ} → t ≡ u → Printed r before after t → Printed r before after u
@@ -47,24 +46,24 @@ module _ (f : List ℕ) where
   told : (x : HeaderRead) (v : Checked) → x ≡ readHeader f → x .verdict ≡ v → verdict (headerChecks f) ≡ v
   unfolding readHeader
   told x v e g =
-      tells (λ (y : HeaderRead). y .verdict) refusedHeader (acceptedHeader head) (λ q. refl) refl (headerChecks f) v (ap (λ (y : HeaderRead). y .verdict) (sym e) ∙ g)
+      checkLaws .tells (λ (y : HeaderRead). y .verdict) refusedHeader (acceptedHeader head) (λ q. refl) refl (headerChecks f) v (ap (λ (y : HeaderRead). y .verdict) (sym e) ∙ g)
 
   pub good-read : verdict (headerChecks f) ≡ Good → readHeader f ≡ acceptedHeader head
   unfolding readHeader
-  good-read g = good-all refusedHeader (headerChecks f) (acceptedHeader head) g
+  good-read g = checkLaws .good-all refusedHeader (headerChecks f) (acceptedHeader head) g
 
   module _ (short : length f ≤ 65536) (x : HeaderRead) (e : x ≡ readHeader f) where
     pub listing-refused : (r : Reason) → x .verdict ≡ Refused r → refusedText (numberOf r) ≡ listingOf f
     unfolding listingOf
     listing-refused r g =
         rw (le-ltb 65536 (length f) short)
-        (sym (refused-then (λ (q : Reason). refusedText (numberOf q)) (headerChecks f) ((ltb 32768 ((head .n + head .m) * head .s), 15) ∷ []) (sessionText head (sessionIn head f)) r (told x (Refused r) e g)))
+        (sym (checkLaws .refused-then (λ (q : Reason). refusedText (numberOf q)) (headerChecks f) ((ltb 32768 ((head .n + head .m) * head .s), 15) ∷ []) (sessionText head (sessionIn head f)) r (told x (Refused r) e g)))
 
     accepted-text : x .verdict ≡ Good → acceptedText head f ≡ listingOf f
     unfolding listingOf acceptedText
     accepted-text g =
         rw (le-ltb 65536 (length f) short)
-        (sym (good-then (λ (q : Reason). refusedText (numberOf q)) (headerChecks f) ((ltb 32768 ((head .n + head .m) * head .s), 15) ∷ []) (sessionText head (sessionIn head f)) (told x Good e g)))
+        (sym (checkLaws .good-then (λ (q : Reason). refusedText (numberOf q)) (headerChecks f) ((ltb 32768 ((head .n + head .m) * head .s), 15) ∷ []) (sessionText head (sessionIn head f)) (told x Good e g)))
 
     pub listing-accepted : x .verdict ≡ Good → (readHeader f ≡ acceptedHeader (x .head)) × (acceptedText (x .head) f ≡ listingOf f)
     listing-accepted g =
@@ -86,11 +85,11 @@ long : (d : Desk) → deskWrong d ≡ false → Long d
 unfolding lengthsWrong
 long d w =
     let is : (k n : ℕ) → not (eqb k n) ≡ false → k ≡ n = λ k n z. eqb-true k n (not-false (eqb k n) z) in
-    let f = or-false _ (not (eqb (length (d .bounds)) 1024)) w in
-    let e = or-false _ (not (eqb (length (d .content)) 32768)) (f .0) in
-    let n = or-false _ (not (eqb (length (d .numbers)) 1024)) (e .0) in
-    let c = or-false _ (not (eqb (length (d .scratch)) 32768)) (n .0) in
-    let b = or-false (not (eqb (length (d .store)) 32768)) (not (eqb (length (d .marks)) 1056)) (c .0) in
+    let f = testLaws .or-false _ (not (eqb (length (d .bounds)) 1024)) w in
+    let e = testLaws .or-false _ (not (eqb (length (d .content)) 32768)) (f .0) in
+    let n = testLaws .or-false _ (not (eqb (length (d .numbers)) 1024)) (e .0) in
+    let c = testLaws .or-false _ (not (eqb (length (d .scratch)) 32768)) (n .0) in
+    let b = testLaws .or-false (not (eqb (length (d .store)) 32768)) (not (eqb (length (d .marks)) 1056)) (c .0) in
     record {
       store = is _ _ (b .0);
       marks = is _ _ (b .1);
@@ -104,7 +103,7 @@ long d w =
 
 module _ (h : Head) (f : List ℕ) (e : readHeader f ≡ acceptedHeader h) where
   shape : RightShape (h .size) (h .n) (h .m) (h .s)
-  shape = right-shape (h .size) (h .n) (h .m) (h .s) (accepted-shape f h e)
+  shape = lentLaws .right-shape (h .size) (h .n) (h .m) (h .s) (lentLaws .accepted-shape f h e)
 
   pub blocks-few : (h .n + h .m ≤ 1056) × ((h .n + h .m) * h .s ≤ 4325376) × (h .m * h .s ≤ (h .n + h .m) * h .s)
   blocks-few = (
@@ -115,7 +114,7 @@ module _ (h : Head) (f : List ℕ) (e : readHeader f ≡ acceptedHeader h) where
 
   -- region and trailer lie apart
   pub trailer-after : lengthField f + 76 ≤ length f
-  trailer-after = ltb-false (length f) (lengthField f + 76) (passed (headerChecks f) (told f (acceptedHeader h) Good (sym e) refl) .1 .1 .1 .1 .0)
+  trailer-after = ltb-false (length f) (lengthField f + 76) (checkLaws .passed (headerChecks f) (told f (acceptedHeader h) Good (sym e) refl) .1 .1 .1 .1 .0)
 
   pub limit-text : 32768 < (h .n + h .m) * h .s → refusedText 15 ≡ acceptedText h f
   unfolding acceptedText
@@ -140,7 +139,7 @@ module _ (h : Head) (f : List ℕ) (e : readHeader f ≡ acceptedHeader h) where
           let l = long d w in
           let b = desk-holds in
           record {
-            shape = accepted-shape f h e;
+            shape = lentLaws .accepted-shape f h e;
             few = few;
             store-long = length-take-le _ _ (b .0);
             marks-long = length-take-le _ _ (b .1);

@@ -6,8 +6,7 @@ use mathlib.Core.List.{List, [], _∷_, _++_}
 use native.Mathlib.Omega.{arith}
 use lib.Dec.{ltb, eqb}
 use lib.ListN.{length, length-append}
-use Rattle.little.proofs.TestLaws.{or-false}
-use Rattle.little.proofs.ListLaws.{length-cut}
+use Rattle.little.proofs.Laws.{testLaws, partLaws}
 use Rattle.sfc.specs.answer.Numbers.{Check, checked, verdict, reasonOf, numberOf}
 use Rattle.sfc.specs.format.Header.{regionOf, headOf, headerChecks}
 use Rattle.sfc.specs.session.Marks.{heldCount, barredCount}
@@ -22,11 +21,9 @@ use Rattle.sfc_listing.specs.Listing.{between, sessionIn, uuidLine, shap
 use Rattle.sfc.specs.declared.format.header.Head.{Head}
 use Rattle.sfc.specs.declared.answer.reason.Reason.{Reason}
 use Rattle.sfc.specs.declared.answer.reason.Checked.the-variants.{Good}
-use Rattle.sfc.proofs.CheckLaws.{front-good, passed, all-passed}
-use Rattle.sfc.proofs.MarkLaws.{right-marks}
-use Rattle.sfc.proofs.RangesFew.{ranges-few}
-use Rattle.sfc.proofs.RightLaws.{accepted-shape, blank-right}
-use Rattle.sfc_walk.proofs.StepLaws.{all-lent}
+use Rattle.sfc.proofs.Laws.{checkLaws, lentLaws}
+use Rattle.sfc.proofs.Theorems.{ranges-few}
+use Rattle.sfc_walk.proofs.WalkTheorems.{walk-theorems}
 use Rattle.sfc_listing.proofs.FileLaws.{good-read}
 
 -- ---- pieces, and one after the other
@@ -122,10 +119,10 @@ module _ (h : Head) (x : Session) (right : sessionWrong h x ≡ false) (u : leng
 
   marks-right : marksWrong (h .size) (h .n) (h .m) (h .s) (x .marks) ≡ false
   unfolding lentWrong
-  marks-right = or-false _ _ right .0
+  marks-right = testLaws .or-false _ _ right .0
 
   few-ranges : length rs ≤ 512
-  few-ranges = omega (arith, ranges-few .ranges-few (h .n) (x .marks), right-marks (h .size) (h .n) (h .m) (h .s) (x .marks) marks-right .shape .n-most)
+  few-ranges = omega (arith, ranges-few .ranges-few (h .n) (x .marks), lentLaws .right-marks (h .size) (h .n) (h .m) (h .s) (x .marks) marks-right .shape .n-most)
 
   session-short : length (sessionText h x) ≤ 25820
   unfolding sessionText
@@ -142,15 +139,15 @@ module _ (f : List ℕ) where
   header-good : verdict (programChecks head f) ≡ Good → verdict (headerChecks f) ≡ Good
   header-good e =
       let limit : List Check = (ltb 32768 ((head .n + head .m) * head .s), 15) ∷ [] in
-      front-good (headerChecks f) limit (all-passed (headerChecks f ++ limit) (passed (programChecks head f) e .1))
+      checkLaws .front-good (headerChecks f) limit (checkLaws .all-passed (headerChecks f ++ limit) (checkLaws .passed (programChecks head f) e .1))
 
   session-right : verdict (headerChecks f) ≡ Good → sessionWrong head (sessionIn head f) ≡ false
   unfolding sessionIn walkOver
-  session-right g = all-lent head (blank head) (chunksOf head (between f)) (blank-right head (accepted-shape f head (good-read f g)) .lent)
+  session-right g = walk-theorems .stays-lent head (blank head) (chunksOf head (between f)) (lentLaws .blank-right head (lentLaws .accepted-shape f head (good-read f g)))
 
   pub listing-fits : length (listingOf f) ≤ 32768
   unfolding listingOf
   listing-fits =
       decided (programChecks head f) (λ (r : Reason). refusedText (numberOf r)) (sessionText head (sessionIn head f)) 32768
       (λ r. omega (arith, refused-short (numberOf r)))
-      (λ e. omega (arith, session-short head (sessionIn head f) (session-right (header-good e)) (length-cut (regionOf f) 4 16)))
+      (λ e. omega (arith, session-short head (sessionIn head f) (session-right (header-good e)) (partLaws .length-cut (regionOf f) 4 16)))

@@ -10,8 +10,7 @@ use borrow.Author.Tests.{lt-ltb, le-ltb}
 use lib.ListN.{length, getD, set, take, drop, length-append, length-set, drop-of-length-le}
 use lib.Seq.{drop-cons, set-split, drop-drop, append-snoc, drop-length}
 use Rattle.little.specs.Parts.{part, put}
-use Rattle.little.proofs.PartLaws.{length-put, part-rest, put-none}
-use Rattle.little.proofs.ListLaws.{put-next, copied-in, length-cut, drop-set}
+use Rattle.little.proofs.Laws.{putLaws, partLaws}
 use Rattle.sfc.specs.note.Ranges.{Range, bounds}
 use Rattle.sfc_listing.specs.Text.{text, digits, decimal, hexDigit, hex, line}
 use Rattle.sfc_listing.specs.Listing.{uuidLine, shapeLine, countsLine, missingLine, missingLines, startText, refusedText}
@@ -30,7 +29,7 @@ pub joined : {a b at r r′ : ℕ} {out mid after xs ys : List ℕ} → at + a �
 joined {a} {b} {at} {r} {r′} {out} {mid} {after} {xs} {ys} h p q = record {
   place = omega (arith, p .place, q .place, length-append xs ys);
   short = omega (arith, p .short, q .short, length-append xs ys);
-  made = q .made ∙ ap₂ (λ (o : List ℕ) (k : ℕ). put o k ys) (p .made) (p .place) ∙ put-next out at xs ys (omega (arith, p .short));
+  made = q .made ∙ ap₂ (λ (o : List ℕ) (k : ℕ). put o k ys) (p .made) (p .place) ∙ putLaws .put-next out at xs ys (omega (arith, p .short));
 }
 
 -- a name and its value after other pieces
@@ -57,17 +56,17 @@ appending-next : {most a at₀ at r : ℕ} {out₀ out after whole xs rest : Lis
     → Appending most out₀ at₀ whole (xs ++ rest) at out → Appended a out at xs r after → Appending (most + a) out₀ at₀ whole rest r after
 appending-next {at = at} {out = out} {xs = xs} {rest = rest} h f p =
     let fit : at + length xs ≤ length out = omega (arith, p .short) in record {
-      long = ap length (p .made) ∙ length-put out at xs fit ∙ f .long;
+      long = ap length (p .made) ∙ putLaws .length-put out at xs fit ∙ f .long;
       low = omega (arith, p .place, p .short, f .low);
       place = omega (arith, p .place, f .place, length-append xs rest);
-      all = ap₂ (λ (o : List ℕ) (k : ℕ). put o k rest) (p .made) (p .place) ∙ put-next out at xs rest (omega (arith, fit)) ∙ f .all;
+      all = ap₂ (λ (o : List ℕ) (k : ℕ). put o k rest) (p .made) (p .place) ∙ putLaws .put-next out at xs rest (omega (arith, fit)) ∙ f .all;
     }
 
 appending-end : {most at₀ at : ℕ} {out₀ out whole : List ℕ} → Appending most out₀ at₀ whole [] at out → Appended most out₀ at₀ whole at out
 appending-end {at = at} {out = out} f = record {
   place = omega (arith, f .place);
   short = omega (arith, f .place, f .low);
-  made = sym (put-none out at) ∙ f .all;
+  made = sym (putLaws .put-none out at) ∙ f .all;
 }
 
 -- ---- pieces that a loop or a copy makes
@@ -76,7 +75,7 @@ appending-end {at = at} {out = out} f = record {
 pub text-made : (out xs ys : List ℕ) (at : ℕ) → at + length xs ≤ length out
     → ys ≡ take (length xs) xs ++ drop (length xs) (part out at (at + length xs - at))
     → Appended (length xs) out at xs (at + length xs) (take at out ++ (ys ++ drop (at + length xs - at) (drop at out)))
-text-made out xs ys at h e = record { place = refl; short = omega arith; made = copied-in out xs ys at (length xs) h refl e }
+text-made out xs ys at h e = record { place = refl; short = omega arith; made = putLaws .copied-in out xs ys at (length xs) h refl e }
 
 -- two bytes stored one after the other
 two-made : (out : List ℕ) (at x y : ℕ) → at + 2 ≤ length out → Appended 2 out at (x ∷ y ∷ []) (at + 2) (set (set out at x) (at + 1) y)
@@ -85,7 +84,7 @@ two-made out at x y h = record {
   short = omega arith;
   made =
       one (set out at x) (at + 1) y (omega (arith, length-set out at x)) ∙ ap (λ (o : List ℕ). put o (at + 1) (y ∷ [])) (one out at x (omega arith))
-      ∙ put-next out at (x ∷ []) (y ∷ []) (omega arith);
+      ∙ putLaws .put-next out at (x ∷ []) (y ∷ []) (omega arith);
 }
   where
     one : (o : List ℕ) (k v : ℕ) → k < length o → set o k v ≡ put o k (v ∷ [])
@@ -148,7 +147,7 @@ gather-next v d rest (suc (suc k)) h g =
     let e : suc (suc k) - 1 ≡ suc k = omega arith in
     let p : 10 ^ suc (suc k) ≡ 10 ^ suc k * 10 = pow-suc _ _ in
     let n : suc k + 1 ≡ suc (suc k) = omega arith in
-    let s : drop (suc k) (set d (suc k) (48 + rest % 10)) ≡ (48 + rest % 10) ∷ drop (suc (suc k)) d = rw n at (drop-set d (suc k) (48 + rest % 10) (omega (arith, g .long, g .most))) in
+    let s : drop (suc k) (set d (suc k) (48 + rest % 10)) ≡ (48 + rest % 10) ∷ drop (suc (suc k)) d = rw n at (putLaws .drop-set d (suc k) (48 + rest % 10) (omega (arith, g .long, g .most))) in
     rw e record {
       some = omega arith;
       most = omega (arith, g .most);
@@ -162,7 +161,7 @@ gather-end v d rest zero h g = absurd (omega (arith, g .some))
 gather-end v d rest (suc k) h g =
     let e : suc k - 1 ≡ k = omega arith in
     let n : k + 1 ≡ suc k = omega arith in
-    let s : drop k (set d k (48 + rest)) ≡ (48 + rest) ∷ drop (suc k) d = rw n at (drop-set d k (48 + rest) (omega (arith, g .long, g .most))) in
+    let s : drop k (set d k (48 + rest)) ≡ (48 + rest) ∷ drop (suc k) d = rw n at (putLaws .drop-set d k (48 + rest) (omega (arith, g .long, g .most))) in
     rw e (s ∙ (rw (digits-last k rest h) at (g .all)))
 
 -- the text of a value, as the used part of the digits is copied
@@ -173,9 +172,9 @@ decimal-made v d rest i n {out} {after} {at} {r} h g en p =
     let l : length (set d (i - 1) (48 + rest)) ≡ 20 = length-set d (i - 1) (48 + rest) ∙ g .long in
     let k : n ≡ length (set d (i - 1) (48 + rest)) - (i - 1) = omega arith in
     let e : part (set d (i - 1) (48 + rest)) (i - 1) n ≡ decimal v
-    = ap (part (set d (i - 1) (48 + rest)) (i - 1)) k ∙ part-rest (set d (i - 1) (48 + rest)) (i - 1) ∙ gather-end v d rest i h g in
+    = ap (part (set d (i - 1) (48 + rest)) (i - 1)) k ∙ partLaws .part-rest (set d (i - 1) (48 + rest)) (i - 1) ∙ gather-end v d rest i h g in
     let q : Appended (length (decimal v)) out at (decimal v) r after = rw e at p in
-    within q (omega (arith, ap length (sym e), length-cut (set d (i - 1) (48 + rest)) (i - 1) n))
+    within q (omega (arith, ap length (sym e), partLaws .length-cut (set d (i - 1) (48 + rest)) (i - 1) n))
 
 -- ---- the loop over first and last of each range
 

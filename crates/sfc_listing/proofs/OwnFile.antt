@@ -12,11 +12,11 @@ use lib.Dec.{eqb}
 use lib.ListN.{length, getD, drop, replicate, length-replicate, getD-replicate, take-append-drop, drop-of-length-le}
 use lib.Seq.{take-at, drop-at, drop-drop, ext-getD}
 use Rattle.little.specs.Parts.{part}
-use Rattle.little.proofs.PartLaws.{length-part, part-part, block-inside}
+use Rattle.little.proofs.Laws.{partLaws, blockLaws}
 use Rattle.little.specs.Runs.{any, zeros, among}
 use Rattle.sfc.specs.answer.Numbers.{verdict, passes, numberOf}
 use Rattle.sfc.specs.format.Header.{lengthField, acceptedHeader}
-use Rattle.sfc.specs.format.Chunk.{chunkLength, lengthChecks, measureChecks}
+use Rattle.sfc.specs.format.Chunk.{lengthChecks}
 use Rattle.sfc.specs.answer.Places.{place}
 use Rattle.sfc.specs.session.Marks.{isHeld, heldCount, barredCount}
 use Rattle.sfc.specs.session.Session.{Session, blank}
@@ -25,7 +25,7 @@ use Rattle.sfc.specs.note.Missing.{unheldFrom, missing}
 use Rattle.sfc.specs.note.Ranges.{ranges}
 use Rattle.sfc.specs.give.HandOut.{contentChecks, handOutChecks, handOut}
 use Rattle.sfc.specs.session.Lent.{Lent, shapeWrong}
-use Rattle.sfc.specs.writing.Writer.{Input, size, blocks, body, payload, chunk, fileOf, headFor}
+use Rattle.sfc.specs.writing.Writer.{Input, size, blocks, body, chunk, fileOf, headFor}
 use Rattle.sfc.specs.demand.Demand2.{AllBelow, different, received, Lawful, RoomFor}
 use Rattle.sfc_walk.specs.Walk.{chunksIn, chunksOf, walkOver}
 use Rattle.sfc_listing.specs.Text.{text, line}
@@ -36,20 +36,11 @@ use Rattle.sfc.specs.declared.format.header.Head.{Head}
 use Rattle.sfc.specs.declared.answer.reason.Reason.{Reason}
 use Rattle.sfc.specs.declared.answer.reason.Checked.the-variants.{Good}
 use Rattle.sfc.specs.declared.give.hand_out.HandedOut.the-variants.{Complete, Refused}
-use Rattle.sfc.proofs.CheckLaws.{passed, all-passed, good-all, tells, good-passes}
-use Rattle.sfc.proofs.SessionLaws.{right-lent}
-use Rattle.sfc.proofs.MarkLaws.{right-shape}
-use Rattle.sfc.proofs.InputLaws.{RightInput, right-input}
-use Rattle.sfc.proofs.FileLaws.{length-written}
-use Rattle.sfc.proofs.HeaderBack.{field-back}
-use Rattle.sfc.proofs.ChunkBack.{length-back, length-passed}
-use Rattle.sfc.proofs.MissingLaws.{unheld-count}
-use Rattle.sfc.proofs.DifferentLaws.{held-different}
-use Rattle.sfc.proofs.demand.RoundTrip.{made, received-holds}
-use Rattle.sfc.proofs.demand.Demand1.{handOutSeen}
-use Rattle.sfc.proofs.demand.Demand2.{demand2}
-use Rattle.sfc_walk.proofs.StepLaws.{no-chunk}
+use Rattle.sfc.proofs.Laws.{checkLaws, lentLaws, writtenLaws, countLaws}
+use Rattle.sfc.proofs.Theorems.{demand2}
+use Rattle.sfc_walk.proofs.WalkTheorems.{walk-theorems}
 use Rattle.sfc_listing.proofs.FileLaws.{listing-accepted}
+use Rattle.sfc_listing.proofs.ReportLaws.{handOutSeen}
 
 -- ---- the indices in order
 
@@ -85,7 +76,7 @@ none-unheld i zero = refl
 none-unheld i (suc n) = none-unheld (suc i) n
 
 all-held : (n : ℕ) → heldCount (replicate n 1) ≡ n
-all-held n = omega (arith, unheld-count 0 (replicate n 1), ap length (none-unheld 0 n), length-replicate {A = ℕ} n 1)
+all-held n = omega (arith, countLaws .unheld-count 0 (replicate n 1), ap length (none-unheld 0 n), length-replicate {A = ℕ} n 1)
 
 none-barred : (n : ℕ) → barredCount (replicate n 1) ≡ 0
 unfolding barredCount
@@ -96,7 +87,7 @@ none-barred (suc n) = none-barred n
 up-different : (n : ℕ) → different (upFrom 0 n) ≡ n
 up-different n =
     let l : length (replicate {A = ℕ} n 1) ≡ n = length-replicate n 1 in
-    sym (held-different (upFrom 0 n) (replicate n 1) (rw l (up-below 0 n n (omega arith)), λ j h. at j (rw l at h))) ∙ all-held n
+    sym (countLaws .held-different (upFrom 0 n) (replicate n 1) (rw l (up-below 0 n n (omega arith)), λ j h. at j (rw l at h))) ∙ all-held n
   where
     at : (j : ℕ) → j < n → isHeld (getD (replicate n 1) j 0) ≡ among j (upFrom 0 n)
     at j h = ap isHeld (getD-replicate n j 1 0 h) ∙ sym (up-has 0 n j (omega arith) (omega arith))
@@ -113,7 +104,7 @@ module _ (h : Head) (x : Session) (full : x .marks ≡ replicate (h .n + h .m) 1
 
   complete-said : lastWord h x ≡ text "complete"
   unfolding lastWord
-  complete-said = good-all (λ (r : Reason). cond (eqb (numberOf r) 51) (text "hash differs") (text "incomplete")) (contentChecks h (x .store) (x .marks)) (text "complete") good
+  complete-said = checkLaws .good-all (λ (r : Reason). cond (eqb (numberOf r) 51) (text "hash differs") (text "incomplete")) (contentChecks h (x .store) (x .marks)) (text "complete") good
 
   all-said : sessionText h x ≡ startText (h .uuid) (h .n) (h .m) (h .size) (h .s) (h .n + h .m) 0 ++ line (text "complete")
   unfolding sessionText ranges missingLines
@@ -125,16 +116,13 @@ module _ (h : Head) (x : Session) (full : x .marks ≡ replicate (h .n + h .m) 1
 
 -- in none there is no chunk, whatever 71 says of the head
 no-more : (most : ℕ) (h : Head) → chunksIn most h [] ≡ []
-no-more most h = no-chunk h [] most (none (shapeWrong (h .size) (h .n) (h .m) (h .s)))
+no-more most h = walk-theorems .no-chunk h [] most (none (shapeWrong (h .size) (h .n) (h .m) (h .s)))
   where
     none : (b : Bool) → passes ((b, 71) ∷ lengthChecks (h .s) []) ≡ false
     none true = refl
     none false = refl
 
 module _ (w : Input) (l : Lawful w) where
-  right : RightInput w
-  right = right-input w (l .uuid-long) (l .right)
-
   abbrev count : ℕ
   count = blocks w + w .m
 
@@ -145,8 +133,7 @@ module _ (w : Input) (l : Lawful w) where
   chunks = between (fileOf w)
 
   field : lengthField (fileOf w) ≡ length (body w)
-  unfolding fileOf
-  field = field-back w (l .uuid-long) right _
+  field = writtenLaws .field-back w l
 
   file-long : length (fileOf w) ≡ 76 + length (body w) + count * width
   file-long = demand2 .file-length w l
@@ -159,13 +146,13 @@ module _ (w : Input) (l : Lawful w) where
       ap₂ (λ (a n : ℕ). part (fileOf w) a n) at k
 
   chunks-long : length chunks ≡ count * width
-  chunks-long = ap length is-between ∙ length-part (fileOf w) (12 + length (body w)) (count * width) (omega (arith, file-long))
+  chunks-long = ap length is-between ∙ partLaws .length-part (fileOf w) (12 + length (body w)) (count * width) (omega (arith, file-long))
 
   module _ (i : ℕ) (h : i < count) where
     there : part chunks (i * width) width ≡ chunk w i
     there =
         ap (λ (b : List ℕ). part b (i * width) width) is-between
-        ∙ part-part (fileOf w) (12 + length (body w)) (count * width) (i * width) width (block-inside width count i h) (omega (arith, file-long))
+        ∙ partLaws .part-part (fileOf w) (12 + length (body w)) (count * width) (i * width) width (blockLaws .block-inside width count i h) (omega (arith, file-long))
         ∙ demand2 .chunk-in-file w l i h
 
     from : drop (i * width) chunks ≡ chunk w i ++ drop (suc i * width) chunks
@@ -175,21 +162,12 @@ module _ (w : Input) (l : Lawful w) where
 
     -- the walk finds it, and goes on after it
     module _ (rest : List ℕ) where
-      taken : passes (measureChecks (headFor w) (chunk w i ++ rest)) ≡ true
-      unfolding chunk
-      taken =
-          let c : List ℕ = chunk w i ++ rest in
-          rw (right .shape) (good-passes (lengthChecks (w .s) c) (all-passed (lengthChecks (w .s) c) (length-passed (headFor w) i (payload w i) rest (made w (l .uuid-long) (right .shape) i h))))
-
-      stepped : chunkLength (chunk w i ++ rest) ≡ width
-      unfolding chunk
-      stepped = ap (λ (k : ℕ). 84 + k) (length-back (headFor w) i (payload w i) rest (made w (l .uuid-long) (right .shape) i h))
-
       found : (most : ℕ) → chunksIn (suc most) (headFor w) (chunk w i ++ rest) ≡ chunk w i ∷ chunksIn most (headFor w) rest
       unfolding chunksIn
       found most =
-          let n = length-written w (l .uuid-long) (l .right) i in
-          rw (taken, stepped, take-at (chunk w i) rest width n, drop-at (chunk w i) rest width n)
+          let m = writtenLaws .chunk-measured w l i h rest in
+          let n = writtenLaws .length-written w l i in
+          rw (m .0, m .1, take-at (chunk w i) rest width n, drop-at (chunk w i) rest width n)
 
     next : (most : ℕ) → chunksIn (suc most) (headFor w) (drop (i * width) chunks) ≡ chunk w i ∷ chunksIn most (headFor w) (drop (suc i * width) chunks)
     next most = ap (chunksIn (suc most) (headFor w)) from ∙ found (drop (suc i * width) chunks) most
@@ -218,19 +196,19 @@ module _ (w : Input) (l : Lawful w) where
   is-received = ap (afterAll (headFor w) (blank (headFor w))) all-chunks
 
   few : length all ≤ 4294967295
-  few = let r = right-shape (size w) (blocks w) (w .m) (w .s) (right .shape) in omega (arith, up-long 0 count, r .n-most, r .m-most)
+  few = let r = lentLaws .right-shape (size w) (blocks w) (w .m) (w .s) (writtenLaws .shape-written w l) in omega (arith, up-long 0 count, r .n-most, r .m-most)
 
   below : AllBelow count all
   below = up-below 0 count count (omega arith)
 
   all-marks : received w all .marks ≡ replicate count 1
   all-marks =
-      let k = received-holds w (l .uuid-long) (right .shape) (l .content) all below few in
-      let n = right-lent (size w) (blocks w) (w .m) (w .s) (received w all .store) (received w all .marks) (k .right .lent) .marks-long in
+      let k = writtenLaws .received-marks w l all below few in
+      let n = k .0 in
       ext-getD 0 (received w all .marks) (replicate count 1) (n ∙ sym (length-replicate count 1))
       (λ j u.
       let h : j < count = omega (arith, n) in
-      k .marks j h ∙ ap (λ (b : Bool). cond b 1 0) (up-has 0 count j (omega arith) (omega arith)) ∙ sym (getD-replicate count j 1 0 h))
+      k .1 j h ∙ ap (λ (b : Bool). cond b 1 0) (up-has 0 count j (omega arith) (omega arith)) ∙ sym (getD-replicate count j 1 0 h))
 
   -- with any memory of the right size the hand-out is complete, so that no check of the content refuses
   content-good : verdict (contentChecks (headFor w) (received w all .store) (received w all .marks)) ≡ Good
@@ -245,8 +223,8 @@ module _ (w : Input) (l : Lawful w) where
         output-long = omega (arith, length-replicate {A = ℕ} (size w) 0);
       } in
       let e = demand2 .round-trip w l all below few (omega (arith, up-different count)) d room in
-      let t = tells handOutSeen Refused (Complete (place (size w))) (λ q. refl) refl (handOutChecks (headFor w) s m d) Good (ap (λ r. handOutSeen (r .answer)) e) in
-      all-passed (contentChecks (headFor w) s m) (passed (handOutChecks (headFor w) s m d) t .1 .1)
+      let t = checkLaws .tells handOutSeen Refused (Complete (place (size w))) (λ q. refl) refl (handOutChecks (headFor w) s m d) Good (ap (λ r. handOutSeen (r .answer)) e) in
+      checkLaws .all-passed (contentChecks (headFor w) s m) (checkLaws .passed (handOutChecks (headFor w) s m d) t .1 .1)
 
   -- ---- the listing
 

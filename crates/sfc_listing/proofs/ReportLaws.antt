@@ -12,7 +12,7 @@ use lib.ListN.{length, take, drop}
 use lib.Seq.{take-at}
 use Rattle.little.specs.Parts.{put}
 use Rattle.little.specs.Runs.{zeros}
-use Rattle.little.proofs.TestLaws.{or-false}
+use Rattle.little.proofs.Laws.{testLaws}
 use Rattle.sfc.specs.answer.Numbers.{Answered, checked, verdict, numberOf}
 use Rattle.sfc.specs.answer.Places.{place}
 use Rattle.sfc.specs.session.Marks.{heldCount, barredCount}
@@ -41,14 +41,9 @@ use Rattle.sfc.specs.declared.give.hand_out.HandedOut.{HandedOut}
 use Rattle.sfc.specs.declared.give.hand_out.HandedOut.the-variants.{Complete, Refused as NotHandedOut}
 use Rattle.sfc_listing.specs.declared.lines.LastWord.{LastWord}
 use Rattle.sfc_listing.specs.declared.lines.LastWord.the-variants.{Complete as Whole, HashDiffers, Incomplete}
-use Rattle.sfc.proofs.CheckLaws.{good-all, refused-all, tells}
-use Rattle.sfc.proofs.demand.Demand1.{handOutSeen}
-use Rattle.sfc.proofs.MarkLaws.{right-marks}
-use Rattle.sfc.proofs.RangesFew.{ranges-few}
-use Rattle.sfc.proofs.SessionLaws.{right-lent}
-use Rattle.sfc.proofs.LimitLaws.{wanted-holds}
-use Rattle.sfc.proofs.RightLaws.{blank-right}
-use Rattle.sfc_walk.proofs.StepLaws.{all-lent}
+use Rattle.sfc.proofs.Laws.{checkLaws, lentLaws}
+use Rattle.sfc.proofs.Theorems.{ranges-few}
+use Rattle.sfc_walk.proofs.WalkTheorems.{walk-theorems}
 use Rattle.sfc_listing.proofs.LineLaws.{bounds-lines}
 
 -- ---- what right marks come to
@@ -81,7 +76,7 @@ module _ (h : Head) (marks : List ℕ) (right : marksWrong (h .size) (h .n) (h .
         let q : Count k ≡ Count (length (boundsFor h marks)) = sym f ∙ counts in
         let l : k ≡ length (boundsFor h marks) = cc in
         let o : left ≡ put out 0 (boundsFor h marks) = ap (λ (a : Answered Listed). a .output) given in
-        let n : h .n ≤ 1024 = right-marks (h .size) (h .n) (h .m) (h .s) marks right .shape .n-most in
+        let n : h .n ≤ 1024 = lentLaws .right-marks (h .size) (h .n) (h .m) (h .s) marks right .shape .n-most in
         let t : k ≡ 2 * length (ranges (missing (h .n) marks)) = l ∙ ranges-few .bounds-long (ranges (missing (h .n) marks)) in
         (rw (l, o) (take-put out (boundsFor h marks)), omega (arith, ranges-few .bounds-few (h .n) marks n), omega arith)
 
@@ -89,6 +84,11 @@ module _ (h : Head) (marks : List ℕ) (right : marksWrong (h .size) (h .n) (h .
     bounds-refused r f = let q : Count (length (boundsFor h marks)) ≡ Unlisted r = sym counts ∙ f in absurd (let z : _≡_ {A = ℕ} 0 1 = cc in omega arith)
 
 -- ---- the last word
+
+-- the verdict in an answer
+abbrev pub handOutSeen : HandedOut → Checked
+handOutSeen (Complete p) = Good
+handOutSeen (NotHandedOut r) = Refused r
 
 module _ (h : Head) (store marks : List ℕ) (l : Lent) (right : rebuildWrong h store marks l ≡ false) (room : h .size ≤ length (l .output)) (answer : HandedOut) (after : Lent)
     (e : _≡_ {A = Rebuilding HandedOut} (record { answer = answer; lent = after }) (handOut h store marks l)) where
@@ -99,7 +99,7 @@ module _ (h : Head) (store marks : List ℕ) (l : Lent) (right : rebuildWrong h 
       rw (right, f) at (ap (λ (x : Rebuilding HandedOut). x .answer) e)
 
   told : (v : Checked) → handOutSeen answer ≡ v → verdict (contentChecks h store marks) ≡ v
-  told v f = tells handOutSeen NotHandedOut (Complete (place (h .size))) (λ q. refl) refl (contentChecks h store marks) v (ap handOutSeen (sym answer-is) ∙ f)
+  told v f = checkLaws .tells handOutSeen NotHandedOut (Complete (place (h .size))) (λ q. refl) refl (contentChecks h store marks) v (ap handOutSeen (sym answer-is) ∙ f)
 
   -- the word for a refusal
   abbrev word : Reason → List ℕ
@@ -107,11 +107,11 @@ module _ (h : Head) (store marks : List ℕ) (l : Lent) (right : rebuildWrong h 
 
   refused-word : (r : Reason) → answer ≡ NotHandedOut r → lastWord h (sessionOf store marks noTallies) ≡ word r
   unfolding lastWord
-  refused-word r f = refused-all word (contentChecks h store marks) (text "complete") r (told (Refused r) (ap handOutSeen f))
+  refused-word r f = checkLaws .refused-all word (contentChecks h store marks) (text "complete") r (told (Refused r) (ap handOutSeen f))
 
   pub word-whole : (p : BytePlace) → answer ≡ Complete p → wordOf Whole ≡ lastWord h (sessionOf store marks noTallies)
   unfolding wordOf lastWord
-  word-whole p f = sym (good-all word (contentChecks h store marks) (text "complete") (told Good (ap handOutSeen f)))
+  word-whole p f = sym (checkLaws .good-all word (contentChecks h store marks) (text "complete") (told Good (ap handOutSeen f)))
 
   pub word-differs : (r : Reason) (k : ℕ) → answer ≡ NotHandedOut r → k ≡ numberOf r → k ≡ 51 → wordOf HashDiffers ≡ lastWord h (sessionOf store marks noTallies)
   unfolding wordOf
@@ -127,7 +127,7 @@ module _ (h : Head) (d : Desk) (out : List ℕ) (y : Ready h d out) where
   module _ (lent : lentWrong (h .size) (h .n) (h .m) (h .s) (d .store) (d .marks) ≡ false) where
     pub marks-right : marksWrong (h .size) (h .n) (h .m) (h .s) (d .marks) ≡ false
     unfolding lentWrong
-    marks-right = or-false _ _ lent .0
+    marks-right = testLaws .or-false _ _ lent .0
 
     pub rebuild-right : (scratch numbers content : List ℕ) → length scratch ≡ length (d .scratch) → length numbers ≡ length (d .numbers)
         → rebuildWrong h (d .store) (d .marks) (lentOf scratch numbers content) ≡ false
@@ -137,9 +137,9 @@ module _ (h : Head) (d : Desk) (out : List ℕ) (y : Ready h d out) where
 
     pub size-fits : h .size ≤ 32768
     size-fits =
-        let r = right-lent (h .size) (h .n) (h .m) (h .s) (d .store) (d .marks) lent in
+        let r = lentLaws .right-lent (h .size) (h .n) (h .m) (h .s) (d .store) (d .marks) lent in
         let k : h .n * h .s ≤ (h .n + h .m) * h .s = mul-le-mul {n₁ = h .n} {m₁ = h .s} {n₂ = h .n + h .m} {m₂ = h .s} (omega arith) (omega arith) in
-        omega (arith, wanted-holds (h .size) (h .s) (omega (arith, r .shape .s-least)) .1, ap (λ (x : ℕ). x * h .s) (r .shape .wanted), y .few)
+        omega (arith, lentLaws .wanted-holds (h .size) (h .s) (omega (arith, r .shape .s-least)) .1, ap (λ (x : ℕ). x * h .s) (r .shape .wanted), y .few)
 
   -- store and marks are cleared, and the chunks in b offered
   module _ (store₁ marks₁ b store marks : List ℕ) (t₀ t : Tallies) (end : ℕ) (cs : store₁ ≡ zeros (length (d .store))) (cm : marks₁ ≡ zeros (length (d .marks)))
@@ -161,13 +161,13 @@ module _ (h : Head) (d : Desk) (out : List ℕ) (y : Ready h d out) where
 
     whole-lent : sessionWrong h whole ≡ false
     unfolding walkOver
-    whole-lent = all-lent h (blank h) (chunksOf h b) (blank-right h (y .shape) .lent)
+    whole-lent = walk-theorems .stays-lent h (blank h) (chunksOf h b) (lentLaws .blank-right h (y .shape))
 
     pub ready-walked : Ready h (deskOf store marks (d .scratch) (d .numbers) (d .content) (d .bounds)) out
         × (lentWrong (h .size) (h .n) (h .m) (h .s) store marks ≡ false)
     ready-walked =
         let l : lentWrong (h .size) (h .n) (h .m) (h .s) store marks ≡ false = rw (is-store, is-marks) whole-lent in
-        let r = right-lent (h .size) (h .n) (h .m) (h .s) store marks l in (
+        let r = lentLaws .right-lent (h .size) (h .n) (h .m) (h .s) store marks l in (
           record {
             shape = y .shape;
             few = y .few;

@@ -1,2 +1,2 @@
 -- What the proofs of the probe's functions cite.
-pub mod Counted
+mod Counted

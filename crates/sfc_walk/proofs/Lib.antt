@@ -1,4 +1,4 @@
--- The walk's laws, which are this crate's own, and what upper floors cite: the theorems, and laws of a walk's steps.
-mod LoopLaws
+-- Another crate sees the theorems; the laws of a step and of the loop are this crate's own.
 pub mod WalkTheorems
-pub mod StepLaws
+mod StepLaws
+mod LoopLaws

@@ -10,13 +10,17 @@ use Rattle.sfc.specs.session.Session.{Session, after, Offered, offered}
 use Rattle.sfc.specs.session.History.{afterAll}
 use Rattle.sfc.specs.declared.format.header.Head.{Head}
 use Rattle.sfc.specs.declared.session.offer.Verdict.{Verdict}
-use Rattle.sfc.proofs.SessionLaws.{offered-session}
 use Rattle.sfc_walk.specs.Walk.{frontLength, chunksIn, chunksOf, lengthOfAll, Walk, walkOver}
 use Rattle.sfc_walk.proofs.StepLaws.{front-some, front-none, no-chunk, next-chunk}
 
 -- the walk from here on, with `at` bytes done
 abbrev onward : Head → List ℕ → ℕ → ℕ → Session → Walk
 onward h b most at x = record { session = afterAll h x (chunksIn most h (drop at b)); end = at + lengthOfAll (chunksIn most h (drop at b)) }
+
+-- the session that an offer leaves
+session-left : (h : Head) (x : Session) (c : List ℕ) → offered h x c .session ≡ after h x c
+unfolding offered
+session-left h x c = refl
 
 module _ (h : Head) (x₀ : Session) (b : List ℕ) where
   -- the chunks from place `at` on make of the session at hand what all chunks make of the one it began as
@@ -63,7 +67,7 @@ module _ (h : Head) (x₀ : Session) (b : List ℕ) where
       unfolding Walking afterAll lengthOfAll
       walking-on y v e =
           let f = front-some h t is-some in
-          let ey : y ≡ after h x (take k t) = ap (λ (o : Offered). o .session) e ∙ offered-session h x (take k t) in
+          let ey : y ≡ after h x (take k t) = ap (λ (o : Offered). o .session) e ∙ session-left h x (take k t) in
           let d : drop k t ≡ drop (at + k) b = ap (drop k) rest ∙ drop-drop k at b in
           let n : chunksIn most h (drop at b) ≡ take k t ∷ chunksIn (most - 1) h (drop (at + k) b) =
           rw (← rest, next-chunk h t most more (f .there), ← (f .ends), ← ek, d) in

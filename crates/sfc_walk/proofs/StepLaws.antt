@@ -11,8 +11,8 @@ use Rattle.sfc.specs.format.Chunk.{chunkLength, measureChecks}
 use Rattle.sfc.specs.session.Session.{Session, sessionWrong, after}
 use Rattle.sfc.specs.session.History.{afterAll}
 use Rattle.sfc.specs.declared.format.header.Head.{Head}
-use Rattle.sfc.proofs.ChunkLaws.{front-there}
-use Rattle.sfc.proofs.OfferLaws.{one-offer}
+use Rattle.sfc.proofs.Laws.{measureLaws}
+use Rattle.sfc.proofs.Theorems.{one-offer}
 use Rattle.sfc_walk.specs.Walk.{frontLength, chunksIn}
 
 module _ (h : Head) (b : List ℕ) where
@@ -27,7 +27,7 @@ module _ (h : Head) (b : List ℕ) where
   front-some n = go (passes (measureChecks h b)) refl
     where
       go : (t : Bool) → passes (measureChecks h b) ≡ t → Front
-      go true e = record { there = e; ends = rw e; inside = front-there h b e }
+      go true e = record { there = e; ends = rw e; inside = measureLaws .front-there h b e }
       go false e = absurd (n (rw e))
 
   pub front-none : frontLength h b ≡ 0 → passes (measureChecks h b) ≡ false

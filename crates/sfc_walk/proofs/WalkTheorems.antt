@@ -9,10 +9,10 @@ use lib.Seq.{drop-drop, length-take-le}
 use Rattle.sfc.specs.answer.Numbers.{passes}
 use Rattle.sfc.specs.format.Chunk.{chunkLength, measureChecks}
 use Rattle.sfc.specs.declared.format.header.Head.{Head}
-use Rattle.sfc.proofs.ChunkLaws.{front-there}
+use Rattle.sfc.proofs.Laws.{measureLaws}
 use Rattle.sfc_walk.specs.Walk.{chunksIn, chunksOf, lengthOfAll}
 use Rattle.sfc_walk.specs.WalkTheorems.{concat, WalkTheorems}
-use Rattle.sfc_walk.proofs.StepLaws.{no-chunk, next-chunk}
+use Rattle.sfc_walk.proofs.StepLaws.{no-chunk, next-chunk, all-lent}
 
 take-nothing : (n : ℕ) → take {A = ℕ} n [] ≡ []
 take-nothing zero = refl
@@ -35,13 +35,13 @@ module _ (h : Head) where
 
   -- a chunk takes bytes away
   shorter : (most : ℕ) (b : List ℕ) → length b ≤ suc most → passes (measureChecks h b) ≡ true → length (rest b) ≤ most
-  shorter most b l e = omega (arith, front-there h b e, length-drop (chunkLength b) b)
+  shorter most b l e = omega (arith, measureLaws .front-there h b e, length-drop (chunkLength b) b)
 
   some-left : (b : List ℕ) → length b ≤ 0 → passes (measureChecks h b) ≡ false
   some-left b l = go (passes (measureChecks h b)) refl
     where
       go : (t : Bool) → passes (measureChecks h b) ≡ t → passes (measureChecks h b) ≡ false
-      go true e = absurd (omega (arith, front-there h b e))
+      go true e = absurd (omega (arith, measureLaws .front-there h b e))
       go false e = e
 
   -- ---- where a walk ends, and what it went over
@@ -67,7 +67,7 @@ module _ (h : Head) where
   step most b l rec false e = none (suc most) b e
   step most b l rec true e =
       let k : suc most - 1 ≡ most = omega arith in
-      rw (next-chunk h b (suc most) (omega arith) e, k) (one-more b (chunksIn most h (rest b)) (front-there h b e) (rec (shorter most b l e)))
+      rw (next-chunk h b (suc most) (omega arith) e, k) (one-more b (chunksIn most h (rest b)) (measureLaws .front-there h b e) (rec (shorter most b l e)))
 
   found : (most : ℕ) (b : List ℕ) → length b ≤ most → Found h b (chunksIn most h b)
   found zero b l = none zero b (some-left b l)
@@ -98,4 +98,7 @@ walk-theorems = record {
   chunks-joined = λ h b. found h (length b) b (omega arith) .joined;
   end-inside = λ h b. found h (length b) b (omega arith) .inside;
   walk-stops = λ h b. found h (length b) b (omega arith) .stops;
+  no-chunk = no-chunk;
+  next-chunk = next-chunk;
+  stays-lent = all-lent;
 }

@@ -8,7 +8,7 @@ use lib.ListN.{length, getD, replicate, length-replicate, getD-replicate, length
 use lib.Seq.{ext-getD, getD-set-same, getD-set-other}
 use lib.Bits.{bitXor, xor-zero-r, xor-zero-l}
 use Rattle.gf16.specs.Field.{mul, inv}
-use Rattle.gf16.proofs.Laws.{laws, shuffle}
+use Rattle.gf16.proofs.Laws.{laws}
 use Rattle.cauchy.proofs.algebra.GfLaws.{gf-laws, gf}
 use Rattle.cauchy.proofs.algebra.WordCode.{solve-correct, solve-unique, solve-below}
 use Rattle.cauchy.specs.inner.Promises.{Below, Square, unit}
@@ -46,7 +46,7 @@ dot-plus x (y ∷ ys) [] b la lb = absurd (omega arith)
 dot-plus x (y ∷ ys) (u ∷ a) [] la lb = absurd (omega arith)
 dot-plus x (y ∷ ys) (u ∷ a) (v ∷ b) la lb =
     ap₂ bitXor (laws .add-mul u v (inv (bitXor x y))) (dot-plus x ys a b (omega arith) (omega arith))
-    ∙ shuffle (mul u (inv (bitXor x y))) (mul v (inv (bitXor x y))) (dot field x ys a) (dot field x ys b)
+    ∙ laws .shuffle (mul u (inv (bitXor x y))) (mul v (inv (bitXor x y))) (dot field x ys a) (dot field x ys b)
 
 tail : (d : ℕ) (l : List ℕ) → Below 65536 (d ∷ l) → Below 65536 l
 tail d l h i m = h (suc i) (suc-le-suc m)

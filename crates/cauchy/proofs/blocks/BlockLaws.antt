@@ -12,8 +12,7 @@ use borrow.Author.Tests.{lt-ltb, le-ltb}
 use Rattle.little.specs.Fields.{le, bytesOf}
 use Rattle.little.specs.Parts.{block}
 use Rattle.little.specs.Runs.{zeros}
-use Rattle.little.proofs.FieldLaws.{le-part}
-use Rattle.little.proofs.PartLaws
+use Rattle.little.proofs.Laws.{partLaws, blockLaws, byteLaws}
 use Rattle.cauchy.specs.Code.{wordAt, joined, wordBytes, fieldSum, share, recoveryWord, recoveryBlock, codeBlock, Blocks}
 use Rattle.cauchy.specs.inner.Promises.{Below}
 use Rattle.cauchy.proofs.algebra.WordCode.{rowFrom, codeWord, code-data}
@@ -102,15 +101,15 @@ words-same W l r el er bl br f =
 -- ---- a block of a store
 
 pub length-block : (n s : ℕ) (store : List ℕ) (i : ℕ) → length store ≡ n * s → i < n → length (block s store i) ≡ s
-length-block n s store i l h = PartLaws.length-block s n store l i h
+length-block n s store i l h = blockLaws .length-block s n store l i h
 
 pub word-block : (s W : ℕ) (store : List ℕ) (i w : ℕ) → s ≡ 2 * W → w < W → wordAt (block s store i) (2 * w) ≡ wordAt store (i * s + 2 * w)
-word-block s W store i w e h = le-part 2 store (i * s) s (2 * w) (omega arith)
+word-block s W store i w e h = byteLaws .le-part 2 store (i * s) s (2 * w) (omega arith)
 
 pub below-block : (n s : ℕ) (store : List ℕ) (i : ℕ) → Blocks n s store → i < n → Below 256 (block s store i)
 below-block n s store i b h r m =
     let m′ : r < s = omega (arith, length-block n s store i (b .0) h) in
-    rw (PartLaws.getD-part store (i * s) s r m′) (b .1 (i * s + r))
+    rw (partLaws .getD-part store (i * s) s r m′) (b .1 (i * s + r))
 
 -- a block, from its words
 pub block-of-words : (n s W : ℕ) (store : List ℕ) (i : ℕ) (f : ℕ → ℕ) → s ≡ 2 * W → Blocks n s store → i < n

@@ -19,7 +19,7 @@ use Rattle.cauchy.proofs.words.MixLaws.{mixed, mixed-word}
 use Rattle.cauchy.specs.Code.{fieldSum, share, wordAt, wordBytes, recoveryWord, recoveryBlock, codeBlock}
 use Rattle.cauchy.specs.inner.Promises.{mulAdded}
 use Rattle.little.specs.Parts.{part, block}
-use Rattle.little.proofs.PartLaws.{part-append-left, part-append-right, part-whole, block-inside}
+use Rattle.little.proofs.Laws.{partLaws, blockLaws}
 
 abbrev pub mixing : ℕ → List ℕ → List ℕ → ℕ → ℕ
 mixing c dst src w = bitXor (wordAt dst (2 * w)) (mul c (wordAt src (2 * w)))
@@ -113,13 +113,13 @@ front-shares c m s k front last w even l hw =
     let z : 0 + j ≡ j = omega arith in
     rw z (ap (mul (inv (bitXor k (m + j))))
     (sym (word-block s (s / 2) front j w e hw)
-    ∙ ap (λ (x : List ℕ). wordAt x (2 * w)) (sym (part-append-left front last (j * s) s (omega (arith, block-inside s c j hj))))
+    ∙ ap (λ (x : List ℕ). wordAt x (2 * w)) (sym (partLaws .part-append-left front last (j * s) s (omega (arith, blockLaws .block-inside s c j hj))))
     ∙ word-block s (s / 2) (front ++ last) j w e hw)))
 
 last-part : (c s : ℕ) (front last : List ℕ) → length front ≡ c * s → length last ≡ s → part (front ++ last) (c * s) s ≡ last
 last-part c s front last lf ll =
     let e : c * s ≡ length front + 0 = omega arith in
-    ap (λ (x : ℕ). part (front ++ last) x s) e ∙ part-append-right front last 0 s ∙ ap (part last 0) (sym ll) ∙ part-whole last
+    ap (λ (x : ℕ). part (front ++ last) x s) e ∙ partLaws .part-append-right front last 0 s ∙ ap (part last 0) (sym ll) ∙ partLaws .part-whole last
 
 -- the last turn of the encoder, with a block that lies apart
 pub parts-made : (n m s k : ℕ) (front last out made : List ℕ) (c : ℕ) → 1 ≤ n → s % 2 ≡ 0 → length front ≡ (n - 1) * s → length last ≡ s

@@ -13,7 +13,7 @@ use lib.Dec.{ltb, leb}
 use borrow.Author.Tests.{lt-ltb, le-ltb, le-leb, lt-leb}
 use Rattle.little.specs.Fields.{bytesOf}
 use Rattle.little.specs.Parts.{put}
-use Rattle.little.proofs.PartLaws.{lent, length-part, getD-part, length-put, put-before, put-inside, put-after, block-inside}
+use Rattle.little.proofs.Laws.{putLaws, partLaws, blockLaws}
 use Rattle.cauchy.specs.Code.{joined, wordBytes}
 use Rattle.cauchy.proofs.blocks.BlockLaws.{length-wordBytes}
 use Rattle.cauchy.specs.Calls.{byteOf, inRange, filled}
@@ -78,12 +78,12 @@ module _ (s first count : ℕ) (room : first + count ≤ s / 2) where
   pub read-filled : (e : ℕ) (g : ℕ → ℕ → ℕ) (base : List ℕ) (t width : ℕ) → t < e → e * s ≤ length base → width ≡ 2 * count
       → take width (drop (t * s + 2 * first) (filled s first count e g base)) ≡ wordBytes (λ v. g t (first + v)) 0 count
   read-filled e g base t width ht l ew =
-      let inside : t * s + s ≤ e * s = block-inside s e t ht in
+      let inside : t * s + s ≤ e * s = blockLaws .block-inside s e t ht in
       let lf : length (filled s first count e g base) ≡ length base = length-filled e g base in
-      let lp : length (take width (drop (t * s + 2 * first) (filled s first count e g base))) ≡ width = length-part (filled s first count e g base) (t * s + 2 * first) width (omega arith) in
+      let lp : length (take width (drop (t * s + 2 * first) (filled s first count e g base))) ≡ width = partLaws .length-part (filled s first count e g base) (t * s + 2 * first) width (omega arith) in
       ext-getD 0 (take width (drop (t * s + 2 * first) (filled s first count e g base))) (wordBytes (λ v. g t (first + v)) 0 count) (lp ∙ ew ∙ sym (length-wordBytes (λ v. g t (first + v)) 0 count))
       (λ r m. let m′ : r < 2 * count = omega arith in
-      getD-part (filled s first count e g base) (t * s + 2 * first) width r (omega arith)
+      partLaws .getD-part (filled s first count e g base) (t * s + 2 * first) width r (omega arith)
       ∙ getD-filled e g base (t * s + 2 * first + r) (omega arith)
       ∙ byte-in e g base t r ht m′
       ∙ sym (byte-from (λ v. g t (first + v)) 0 count r m′ ∙ ap (λ (x : ℕ). byteOf (r % 2) (g t (first + x))) (omega arith)))
@@ -115,13 +115,13 @@ module _ (s first count : ℕ) (room : first + count ≤ s / 2) where
       → ((l : ℕ) → (l ≡ t → ⊥) → ltb l e ≡ ltb l e′) → ((l w : ℕ) → (l ≡ t → ⊥) → l < e′ → g l w ≡ g′ l w) → F ≡ filled s first count e g base → ys ≡ wordBytes (λ v. g′ t (first + v)) 0 count
       → take (t * s + 2 * first) F ++ (ys ++ drop width (drop (t * s + 2 * first) F)) ≡ filled s first count e′ g′ base
   put-filled e e′ g g′ base F ys t width hs ht l ew he hg eF ey =
-      let inside : t * s + s ≤ e′ * s = block-inside s e′ t ht in
+      let inside : t * s + s ≤ e′ * s = blockLaws .block-inside s e′ t ht in
       let lF : length F ≡ length base = ap length eF ∙ length-filled e g base in
       let ly : length ys ≡ width = ap length ey ∙ length-wordBytes (λ v. g′ t (first + v)) 0 count ∙ sym ew in
       let fit : t * s + 2 * first + length ys ≤ length F = omega arith in
-      lent F ys (t * s + 2 * first) width ly
-      ∙ ext-getD 0 (put F (t * s + 2 * first) ys) (filled s first count e′ g′ base) (length-put F (t * s + 2 * first) ys fit ∙ lF ∙ sym (length-filled e′ g′ base))
-      (λ q m. let m′ : q < length base = omega (arith, length-put F (t * s + 2 * first) ys fit) in
+      putLaws .lent F ys (t * s + 2 * first) width ly
+      ∙ ext-getD 0 (put F (t * s + 2 * first) ys) (filled s first count e′ g′ base) (putLaws .length-put F (t * s + 2 * first) ys fit ∙ lF ∙ sym (length-filled e′ g′ base))
+      (λ q m. let m′ : q < length base = omega (arith, putLaws .length-put F (t * s + 2 * first) ys fit) in
       go q m′ fit ly (decLt q (t * s + 2 * first)) (decLt q (t * s + 2 * first + 2 * count)) ∙ sym (getD-filled e′ g′ base q m′))
     where
       at-F : (q : ℕ) → q < length base → getD F q 0 ≡ byteAt e g base q
@@ -129,18 +129,18 @@ module _ (s first count : ℕ) (room : first + count ≤ s / 2) where
 
       go : (q : ℕ) → q < length base → t * s + 2 * first + length ys ≤ length F → length ys ≡ width → Dec (q < t * s + 2 * first) → Dec (q < t * s + 2 * first + 2 * count)
           → getD (put F (t * s + 2 * first) ys) q 0 ≡ byteAt e′ g′ base q
-      go q m h ly (yes a) d = put-before F (t * s + 2 * first) ys h q a ∙ at-F q m ∙ byte-out e e′ g g′ base t q hs he hg (λ x y. omega arith)
+      go q m h ly (yes a) d = putLaws .put-before F (t * s + 2 * first) ys h q a ∙ at-F q m ∙ byte-out e e′ g g′ base t q hs he hg (λ x y. omega arith)
       go q m h ly (no a) (yes d) =
           let r : q ≡ t * s + 2 * first + (q - (t * s + 2 * first)) = omega arith in
           let k : q - (t * s + 2 * first) < 2 * count = omega arith in
           ap (λ (x : ℕ). getD (put F (t * s + 2 * first) ys) x 0) r
-          ∙ put-inside F (t * s + 2 * first) ys h (q - (t * s + 2 * first)) (omega arith)
+          ∙ putLaws .put-inside F (t * s + 2 * first) ys h (q - (t * s + 2 * first)) (omega arith)
           ∙ ap (λ (x : List ℕ). getD x (q - (t * s + 2 * first)) 0) ey
           ∙ byte-from (λ v. g′ t (first + v)) 0 count (q - (t * s + 2 * first)) k
           ∙ ap (λ (x : ℕ). byteOf ((q - (t * s + 2 * first)) % 2) (g′ t (first + x))) (omega arith)
           ∙ sym (ap (byteAt e′ g′ base) r ∙ byte-in e′ g′ base t (q - (t * s + 2 * first)) ht k)
       go q m h ly (no a) (no d) =
-          put-after F (t * s + 2 * first) ys h q (omega arith) ∙ at-F q m ∙ byte-out e e′ g g′ base t q hs he hg (λ x y. omega arith)
+          putLaws .put-after F (t * s + 2 * first) ys h q (omega arith) ∙ at-F q m ∙ byte-out e e′ g g′ base t q hs he hg (λ x y. omega arith)
 
 -- ---- scratch depends on the words asked for alone
 

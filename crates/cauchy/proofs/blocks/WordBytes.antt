@@ -11,7 +11,7 @@ use native.Mathlib.Decide.{decLt}
 use lib.ListN.{length, getD, List·getD-eq-default}
 use lib.Bits.{bitXor, xor-mod}
 use Rattle.little.specs.Fields.{Bytes, le, bytesOf}
-use Rattle.little.proofs.FieldLaws.{laws}
+use Rattle.little.proofs.Laws.{littleLaws}
 use Rattle.cauchy.specs.Code.{wordAt}
 use Rattle.cauchy.specs.inner.Promises.{Below}
 
@@ -28,7 +28,7 @@ unfolding le
 word-is s p = rw (add-one p) (omega arith)
 
 pub word-lt : (s : List ℕ) (p : ℕ) → Below 256 s → wordAt s p < 65536
-word-lt s p h = laws 2 .bound s (byte-any s h) p
+word-lt s p h = littleLaws 2 .bound s (byte-any s h) p
 
 pub bytes-two : (v : ℕ) → bytesOf 2 v ≡ v % 256 ∷ v / 256 % 256 ∷ []
 unfolding bytesOf

@@ -11,8 +11,9 @@ use lib.Dec.{ltb, eqb}
 use borrow.Author.Tests.{ltb-false, eqb-true, not-false, lt-ltb, le-ltb}
 use Rattle.cauchy.specs.declared.Answer.{Answer}
 use Rattle.cauchy.proofs.decoding.Known.{length-held, held-take, held-drop, count-split, length-missing, length-present, UsedRows, rows-used}
-use Rattle.little.proofs.TestLaws.{or-false}
-use Rattle.cauchy.proofs.shape.ShapeLaws.{Right, right}
+use Rattle.little.proofs.Laws.{testLaws}
+use Rattle.cauchy.specs.Laws.{Right, Enough}
+use Rattle.cauchy.proofs.shape.ShapeLaws.{right}
 use Rattle.cauchy.proofs.algebra.WordCode.{ascending-distinct}
 use Rattle.cauchy.specs.inner.Promises.{Apart, Distinct, Cross, Square, Room, Rows}
 use Rattle.cauchy.specs.Decode.{missing, count, held, holding, present, rowsUsed, sides, foundWords}
@@ -54,11 +55,11 @@ pub record Fine (n m s marks store scratch numbers first count : ℕ) : Type 0 w
 pub fine : (n m s marks store scratch numbers first count : ℕ) → wrongShape n m s ≡ false → wrongMemory n m s marks store scratch numbers first count ≡ false → Fine n m s marks store scratch numbers first count
 unfolding wrongMemory
 fine n m s marks store scratch numbers first count e f =
-    let a = or-false _ (ltb (s / 2 - first) count) f in
-    let b = or-false _ (ltb (s / 2) first) (a .0) in
-    let c = or-false _ (not (eqb numbers 1024)) (b .0) in
-    let d = or-false _ (not (eqb scratch (m * s))) (c .0) in
-    let g = or-false (not (eqb marks (n + m))) (not (eqb store ((n + m) * s))) (d .0) in
+    let a = testLaws .or-false _ (ltb (s / 2 - first) count) f in
+    let b = testLaws .or-false _ (ltb (s / 2) first) (a .0) in
+    let c = testLaws .or-false _ (not (eqb numbers 1024)) (b .0) in
+    let d = testLaws .or-false _ (not (eqb scratch (m * s))) (c .0) in
+    let g = testLaws .or-false (not (eqb marks (n + m))) (not (eqb store ((n + m) * s))) (d .0) in
     record {
       shape = right n m s e;
       marks-long = eqb-true marks (n + m) (not-false (eqb marks (n + m)) (g .0));
@@ -69,11 +70,6 @@ fine n m s marks store scratch numbers first count e f =
     }
 
 -- no more are missing than recovery blocks are held
-pub record Enough (n m : ℕ) (marks : List ℕ) : Type 0 where
-  pub rows : length (missing m (held (take n marks))) ≤ length (present 0 (held (drop n marks)))
-  pub few : length (missing m (held (take n marks))) ≤ m
-  pub same : length (missing m (held (take n marks))) ≡ length (missing 0 (held (take n marks)))
-
 pub enough : (n m : ℕ) (marks : List ℕ) → length marks ≡ n + m → n ≤ holding marks → Enough n m marks
 enough n m marks l h =
     let lt : length (held (take n marks)) ≡ n = length-held (take n marks) ∙ length-take-le n marks (omega arith) in

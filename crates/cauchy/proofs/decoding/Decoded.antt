@@ -14,8 +14,9 @@ use Rattle.cauchy.proofs.blocks.BlockLaws.{joined-ext, wordBytes-ext, w
 use Rattle.cauchy.proofs.decoding.Known.{length-held, held-take, held-one}
 use Rattle.cauchy.proofs.blocks.Filled.{read-filled, length-filled, getD-filled}
 use Rattle.cauchy.proofs.sums.SumLaws.{word-part}
-use Rattle.cauchy.proofs.columns.EndLaws.{Enough, enough, fine}
-use Rattle.little.proofs.TestLaws.{or-false}
+use Rattle.cauchy.specs.Laws.{Enough}
+use Rattle.cauchy.proofs.columns.EndLaws.{enough, fine}
+use Rattle.little.proofs.Laws.{testLaws}
 use Rattle.cauchy.specs.declared.Answer.{Answer}
 use Rattle.cauchy.specs.Decode.{missing, missingData, held, holding, foundWords, rank, decode}
 use Rattle.cauchy.specs.Code.{joined, wordBytes, wordAt}
@@ -138,7 +139,7 @@ unfolding rebuildSpec rebuildAllSpec
 all-is n m s marks store scratch numbers =
     either Rebuilt _ _ _ _ _ _
     (λ p q.
-    let o = or-false (wrongShape n m s) (wrongMemory n m s (length marks) (length store) (length scratch) (length numbers) 0 (s / 2)) p in
+    let o = testLaws .or-false (wrongShape n m s) (wrongMemory n m s (length marks) (length store) (length scratch) (length numbers) 0 (s / 2)) p in
     let f = fine n m s (length marks) (length store) (length scratch) (length numbers) 0 (s / 2) (o .0) (o .1) in
     λ i. record {
       scratch = all-columns n m s marks store scratch (f .shape .s-least) (f .shape .even) (f .marks-long) (f .scratch-long) (ltb-false (holding marks) n q) i;

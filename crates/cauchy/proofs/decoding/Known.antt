@@ -23,8 +23,7 @@ use Rattle.cauchy.proofs.blocks.Store.{column, columnFrom, length-colum
 use Rattle.cauchy.specs.Theorems.{Shape, Known, One, Some, Free}
 use Rattle.cauchy.proofs.algebra.WordCode
 use Rattle.little.specs.Parts.{block, putBlock}
-use Rattle.little.proofs.PartLaws
-use Rattle.little.proofs.FieldLaws.{bytes-put}
+use Rattle.little.proofs.Laws.{blockLaws, byteLaws}
 use Rattle.cauchy.proofs.blocks.CodeLaws.{length-code}
 use Rattle.cauchy.proofs.blocks.WordBytes.{byte-any}
 
@@ -425,7 +424,7 @@ holding-more (a ∷ marks) (suc j) h o = more (eqb a 1) (held (set marks j 1)) (
     more false l r e = e
 
 pub free : Free
-free n m s marks store g h j hj o bytes bb = (r .0, r .1, old, sym (code-is n m s (r .0) j hj) ∙ r .2 j (omega arith) here ∙ PartLaws.block-put s (n + m) store (g .store-blocks .0) j (omega arith) bytes lb)
+free n m s marks store g h j hj o bytes bb = (r .0, r .1, old, sym (code-is n m s (r .0) j hj) ∙ r .2 j (omega arith) here ∙ blockLaws .block-put s (n + m) store (g .store-blocks .0) j (omega arith) bytes lb)
   where
     lb : length bytes ≡ s
     lb = bb .0 ∙ omega arith
@@ -435,7 +434,7 @@ free n m s marks store g h j hj o bytes bb = (r .0, r .1, old, sym (code-is n m 
       even = g .even;
       small = g .small;
       marks-size = length-set marks j 1 ∙ g .marks-size;
-      store-blocks = (PartLaws.length-putBlock s (n + m) store (g .store-blocks .0) j (omega arith) bytes lb, bytes-put store (j * s) bytes (g .store-blocks .1) (bb .1));
+      store-blocks = (blockLaws .length-putBlock s (n + m) store (g .store-blocks .0) j (omega arith) bytes lb, byteLaws .bytes-put store (j * s) bytes (g .store-blocks .1) (bb .1));
     }
 
     r : (blocks : List ℕ) × Blocks n s blocks × Fits n m s (set marks j 1) (putBlock s store j bytes) blocks
@@ -448,4 +447,4 @@ free n m s marks store g h j hj o bytes bb = (r .0, r .1, old, sym (code-is n m 
     old i hi q =
         let ne : i ≡ j → ⊥ = λ e. o (sym (ap (λ (x : ℕ). getD marks x 0) e) ∙ q) in
         let en : j ≡ i → ⊥ = λ e. ne (sym e) in
-        r .2 i hi (getD-set-other marks j i 1 0 ne ∙ q) ∙ PartLaws.block-put-other s (n + m) store (g .store-blocks .0) j (omega arith) bytes lb i hi en
+        r .2 i hi (getD-set-other marks j i 1 0 ne ∙ q) ∙ blockLaws .block-put-other s (n + m) store (g .store-blocks .0) j (omega arith) bytes lb i hi en

@@ -16,7 +16,8 @@ use Rattle.cauchy.proofs.blocks.Store.{column}
 use Rattle.cauchy.proofs.blocks.BlockLaws.{joined-ext}
 use Rattle.cauchy.proofs.decoding.Known.{length-held, held-take, held-drop, count-split, length-missing, length-present, heldRow, held-sum, known, some}
 use Rattle.cauchy.proofs.decoding.Decoded.{in-blocks}
-use Rattle.cauchy.proofs.columns.EndLaws.{Enough, enough}
+use Rattle.cauchy.specs.Laws.{Enough}
+use Rattle.cauchy.proofs.columns.EndLaws.{enough}
 
 -- ---- the first held marks
 

@@ -9,7 +9,7 @@ use lib.ListN.{length, getD, take, drop}
 use lib.Bits.{bitXor}
 use Rattle.gf16.specs.Field.{mul}
 use Rattle.little.specs.Parts.{put}
-use Rattle.little.proofs.PartLaws.{lent, put-before, put-inside}
+use Rattle.little.proofs.Laws.{putLaws}
 use Rattle.cauchy.proofs.algebra.Linear.{tailFrom, tailFrom-all, tail-step, tail-start, length-unit, below-unit}
 use Rattle.cauchy.specs.inner.Promises.{Below, Ready, unit, Square, Inverse}
 use Rattle.cauchy.specs.inner.System.{solve, field}
@@ -51,7 +51,7 @@ pub rowed-turn : (xs ys numbers row : List ℕ) (i width : ℕ) → Square xs ys
     → row ≡ solve field xs ys (unit (length xs) i) → Rowed xs ys (take (i * length xs) numbers ++ (row ++ drop width (drop (i * length xs) numbers))) (i + 1)
 unfolding Rowed
 rowed-turn xs ys numbers row i width q h32 hi ln ew R er k l hk hl =
-    ap (λ (x : List ℕ). getD x (k * length xs + l) 0) (lent numbers row (i * length xs) width (lr ∙ sym ew)) ∙ go (ℕ-discrete k i)
+    ap (λ (x : List ℕ). getD x (k * length xs + l) 0) (putLaws .lent numbers row (i * length xs) width (lr ∙ sym ew)) ∙ go (ℕ-discrete k i)
   where
     lr : length row ≡ length xs
     lr = ap length er ∙ length-solve field xs ys (unit (length xs) i) ∙ q .size
@@ -60,8 +60,8 @@ rowed-turn xs ys numbers row i width q h32 hi ln ew R er k l hk hl =
     room = omega (arith, square-inside (length xs) i h32 hi, lr)
 
     go : Dec (k ≡ i) → getD (put numbers (i * length xs) row) (k * length xs + l) 0 ≡ getD (solve field xs ys (unit (length xs) k)) l 0
-    go (yes z) = rw z (put-inside numbers (i * length xs) row room l (omega (arith, lr)) ∙ ap (λ (x : List ℕ). getD x l 0) er)
-    go (no n) = put-before numbers (i * length xs) row room (k * length xs + l) (omega (arith, mul-le-mul-right {m = k + 1} {n = i} (length xs) (omega arith))) ∙ R k l (omega arith) hl
+    go (yes z) = rw z (putLaws .put-inside numbers (i * length xs) row room l (omega (arith, lr)) ∙ ap (λ (x : List ℕ). getD x l 0) er)
+    go (no n) = putLaws .put-before numbers (i * length xs) row room (k * length xs + l) (omega (arith, mul-le-mul-right {m = k + 1} {n = i} (length xs) (omega arith))) ∙ R k l (omega arith) hl
 
 pub rowed-end : (xs ys numbers : List ℕ) (i : ℕ) → Square xs ys → length xs ≤ i → Rowed xs ys numbers i → Inverse xs ys numbers
 unfolding Rowed

@@ -6,25 +6,18 @@ use native.Mathlib.Nat.{mul-le-mul}
 use native.Mathlib.Omega.{arith}
 use borrow.Author.Tests.{ltb-false, eqb-false, eqb-true, not-false}
 use lib.Dec.{ltb, eqb}
-use Rattle.little.proofs.TestLaws.{or-false}
+use Rattle.little.proofs.Laws.{testLaws}
 use Rattle.cauchy.specs.Calls.{wrongShape}
-
-pub record Right (n m s : ℕ) : Type 0 where
-  pub n-least : 1 ≤ n
-  pub n-most : n ≤ 1024
-  pub m-most : m ≤ 32
-  pub s-least : 2 ≤ s
-  pub s-most : s ≤ 4096
-  pub even : s % 2 ≡ 0
+use Rattle.cauchy.specs.Laws.{Right}
 
 pub right : (n m s : ℕ) → wrongShape n m s ≡ false → Right n m s
 unfolding wrongShape
 right n m s e =
-    let a = or-false _ (not (eqb (s % 2) 0)) e in
-    let b = or-false _ (ltb 4096 s) (a .0) in
-    let c = or-false _ (ltb s 2) (b .0) in
-    let d = or-false _ (ltb 32 m) (c .0) in
-    let f = or-false (eqb n 0) (ltb 1024 n) (d .0) in
+    let a = testLaws .or-false _ (not (eqb (s % 2) 0)) e in
+    let b = testLaws .or-false _ (ltb 4096 s) (a .0) in
+    let c = testLaws .or-false _ (ltb s 2) (b .0) in
+    let d = testLaws .or-false _ (ltb 32 m) (c .0) in
+    let f = testLaws .or-false (eqb n 0) (ltb 1024 n) (d .0) in
     let z : n ≡ 0 → ⊥ = eqb-false n 0 (f .0) in
     record {
       n-least = omega (arith, z);

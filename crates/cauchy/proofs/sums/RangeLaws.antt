@@ -12,7 +12,7 @@ use lib.Dec.{ltb}
 use lib.Bits.{bitXor}
 use borrow.Author.Tests.{lt-ltb, le-ltb}
 use Rattle.gf16.specs.Field.{inv}
-use Rattle.little.proofs.PartLaws.{length-part}
+use Rattle.little.proofs.Laws.{partLaws}
 use Rattle.little.specs.Runs.{zeros}
 use Rattle.cauchy.proofs.blocks.BlockLaws.{zero-words}
 use Rattle.cauchy.proofs.blocks.CodeLaws.{mulAdded-of}
@@ -46,7 +46,7 @@ pub cleared-turn : (s first count e t width : ℕ) (base F ys : List ℕ) → Ro
 cleared-turn s first count e t width base F ys r ht ew eF ey =
     let k : (t + 1) * s ≤ e * s = mul-le-mul-right {m = t + 1} {n = e} s (omega arith) in
     let lF : length F ≡ length base = ap length eF ∙ length-filled s first count (r .words) t (λ l w. 0) base in
-    let lp : length (take width (drop (t * s + 2 * first) F)) ≡ width = length-part F (t * s + 2 * first) width (omega (arith, r .inside, r .words)) in
+    let lp : length (take width (drop (t * s + 2 * first) F)) ≡ width = partLaws .length-part F (t * s + 2 * first) width (omega (arith, r .inside, r .words)) in
     let n : length (take width (drop (t * s + 2 * first) F)) / 2 ≡ count = omega arith in
     put-filled s first count (r .words) t (t + 1) (λ l w. 0) (λ l w. 0) base F ys t width (omega (arith, r .least)) (omega arith) (omega (arith, r .inside)) ew (λ l n. ltb-other l t n) (λ l w n h. refl) eF (ey ∙ zero-words (length (take width (drop (t * s + 2 * first) F))) (omega arith) ∙ ap (wordBytes (λ _. 0) 0) n)
 
@@ -121,4 +121,4 @@ part-in n m s first count e p q b xs store r w h = record {
 }
 
 pub part-long : (s first count b width : ℕ) (store : List ℕ) → width ≡ 2 * count → b * s + 2 * first + 2 * count ≤ length store → length (take width (drop (b * s + 2 * first) store)) ≡ 2 * count
-part-long s first count b width store e h = length-part store (b * s + 2 * first) width (omega arith) ∙ e
+part-long s first count b width store e h = partLaws .length-part store (b * s + 2 * first) width (omega arith) ∙ e

@@ -19,7 +19,7 @@ use Rattle.cauchy.specs.inner.System.{solve, field}
 use Rattle.cauchy.proofs.algebra.SystemLaws.{length-solve}
 use Rattle.cauchy.specs.Code.{wordAt}
 use Rattle.cauchy.proofs.blocks.Store.{column, length-column, getD-column, below-column}
-use Rattle.little.proofs.FieldLaws.{le-part}
+use Rattle.little.proofs.Laws.{byteLaws}
 use Rattle.cauchy.proofs.blocks.WordBytes.{word-lt}
 use Rattle.cauchy.specs.Decode.{held, side, sides}
 use Rattle.cauchy.specs.Calls.{filled}
@@ -30,7 +30,7 @@ pub word-part : (store : List ℕ) (b s first count width w : ℕ) → width ≡
     → wordAt (take width (drop (b * s + 2 * first) store)) (2 * (w - first)) ≡ wordAt store (b * s + 2 * w)
 word-part store b s first count width w ew h k =
     let e : b * s + 2 * first + 2 * (w - first) ≡ b * s + 2 * w = omega arith in
-    le-part 2 store (b * s + 2 * first) width (2 * (w - first)) (omega arith) ∙ ap (λ (q : ℕ). wordAt store q) e
+    byteLaws .le-part 2 store (b * s + 2 * first) width (2 * (w - first)) (omega arith) ∙ ap (λ (q : ℕ). wordAt store q) e
 
 -- ---- the recovery blocks
 

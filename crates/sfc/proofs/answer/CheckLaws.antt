@@ -5,7 +5,7 @@ use mathlib.Core.Path.{_≡_, refl, sym, ap, _∙_}
 use mathlib.Core.Bool.{Bool, true, false, cond, true≢false, false≢true}
 use mathlib.Core.List.{List, [], _∷_, _++_}
 use native.Mathlib.Omega.{arith}
-use Rattle.sfc.specs.answer.Numbers.{Check, checked, verdict, thenCheck, passes, reasonOf}
+use Rattle.sfc.specs.answer.Numbers.{Check, checked, verdict, thenCheck, passes, Passed, reasonOf}
 use Rattle.sfc.specs.declared.answer.reason.Reason.{Reason}
 use Rattle.sfc.specs.declared.answer.reason.Checked.{Checked}
 use Rattle.sfc.specs.declared.answer.reason.Checked.the-variants.{Good, Refused}
@@ -73,10 +73,6 @@ pub go-on : (cs ds : List Check) (v w : Checked) → v ≡ verdict cs → v ≡ 
 go-on cs ds v w e f g = g ∙ sym (good-then Refused cs ds Good (sym e ∙ f))
 
 -- each test of a good list is false
-abbrev pub Passed : List Check → Type 0
-Passed [] = Unit {0}
-Passed (c ∷ cs) = (c .0 ≡ false) × Passed cs
-
 pub passed : (cs : List Check) → verdict cs ≡ Good → Passed cs
 passed [] e = tt
 passed ((true, k) ∷ cs) e = refused-not-good (reasonOf k) e

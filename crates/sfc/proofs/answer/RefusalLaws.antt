@@ -7,18 +7,18 @@ use native.Mathlib.Omega.{arith}
 use lib.ListN.{length, drop}
 use lib.Seq.{drop-append-seam}
 use Rattle.little.specs.Parts.{put}
-use Rattle.little.proofs.PartLaws.{length-put}
-use Rattle.sfc.specs.answer.Numbers.{Check, checked, verdict, passes, numberOf, reasonOf}
+use Rattle.little.proofs.Laws.{putLaws}
 use Rattle.little.specs.Runs.{among}
 use Rattle.sfc.specs.demand.Demand1.{Leaves, Ends}
+use Rattle.sfc.specs.answer.Numbers.{Check, checked, verdict, passes, NumbersAre, numberOf, reasonOf}
 use Rattle.sfc.specs.declared.answer.reason.Reason.{Reason}
 use Rattle.sfc.specs.declared.answer.reason.Checked.the-variants.{Good, Refused}
 use Rattle.sfc.proofs.answer.CheckLaws.{good-all, refused-all}
-use Rattle.sfc.proofs.session.SessionLaws.{Numbers, number-in}
+use Rattle.sfc.proofs.session.SessionLaws.{number-in}
 
 -- ---- what is left of an output that only a good verdict changes
 
-pub leaves : (cs : List Check) (r : Reason) (ks out new : List ℕ) → Numbers (λ (k : ℕ). among k ks ≡ true) cs → verdict cs ≡ Refused r
+pub leaves : (cs : List Check) (r : Reason) (ks out new : List ℕ) → NumbersAre (λ (k : ℕ). among k ks ≡ true) cs → verdict cs ≡ Refused r
     → Leaves r ks out (checked cs (λ (q : Reason). out) new)
 leaves cs r ks out new n e = record {
   number = number-in (λ (k : ℕ). among k ks ≡ true) cs r n e;
@@ -26,7 +26,7 @@ leaves cs r ks out new n e = record {
 }
 
 put-ends : (out b : List ℕ) → length b ≤ length out → Ends (length b) out (put out 0 b)
-put-ends out b h = record { long = length-put out 0 b (omega arith); rest = drop-append-seam b (drop (length b) out) }
+put-ends out b h = record { long = putLaws .length-put out 0 b (omega arith); rest = drop-append-seam b (drop (length b) out) }
 
 pub ends : (cs : List Check) (out b : List ℕ) (k : ℕ) → verdict cs ≡ Good → length b ≡ k → k ≤ length out
     → Ends k out (checked cs (λ (q : Reason). out) (put out 0 b))
@@ -35,7 +35,7 @@ ends cs out b k e l h =
 
 -- ---- a list of checks in two parts: which part refused is told by the number
 
-pub early-told : (cs ds : List Check) (r : Reason) (ks : List ℕ) → Numbers (λ (k : ℕ). among k ks ≡ true) cs → Numbers (λ (k : ℕ). among k ks ≡ false) ds
+pub early-told : (cs ds : List Check) (r : Reason) (ks : List ℕ) → NumbersAre (λ (k : ℕ). among k ks ≡ true) cs → NumbersAre (λ (k : ℕ). among k ks ≡ false) ds
     → verdict (cs ++ ds) ≡ Refused r → passes cs ≡ not (among (numberOf r) ks)
 early-told [] ds r ks n o e = ap not (sym (number-in (λ (k : ℕ). among k ks ≡ false) ds r o e))
 early-told ((true, k) ∷ cs) ds r ks n o e =

@@ -8,7 +8,7 @@ use borrow.Author.Tests.{eqb-true, ltb-false, leb-false, le-ltb, lt-leb, not-fal
 use lib.Dec.{eqb, ltb, lit≤}
 use lib.ListN.{length, getD}
 use Rattle.little.specs.Parts.{put}
-use Rattle.little.proofs.TestLaws.{or-false}
+use Rattle.little.proofs.Laws.{testLaws}
 use Rattle.little.specs.Runs.{any, zeros, among}
 use Rattle.sfc.specs.answer.Numbers.{Check, checked, verdict, passes, numberOf}
 use Rattle.sfc.specs.format.Header.{lengthField, headerChecks, regionOf, headOf, refusedHeader, acceptedHeader, readHeader}
@@ -211,8 +211,8 @@ unfolding rebuildWrong
 lengths h store marks l e =
     let w : Bool = lentWrong (h .size) (h .n) (h .m) (h .s) store marks in
     let s : Bool = not (eqb (length (l .scratch)) (h .m * h .s)) in
-    let a = or-false (w || s) (not (eqb (length (l .numbers)) 1024)) e in
-    let b = or-false w s (a .0) in (
+    let a = testLaws .or-false (w || s) (not (eqb (length (l .numbers)) 1024)) e in
+    let b = testLaws .or-false w s (a .0) in (
       eqb-true (length (l .scratch)) (h .m * h .s) (not-false (eqb (length (l .scratch)) (h .m * h .s)) (b .1)),
       eqb-true (length (l .numbers)) 1024 (not-false (eqb (length (l .numbers)) 1024) (a .1)),
     )

@@ -9,9 +9,8 @@ use lib.Dec.{lit<}
 use lib.ListN.{length, length-append}
 use Rattle.little.specs.Fields.{Bytes}
 use Rattle.little.specs.Parts.{part, put}
-use Rattle.little.proofs.PartLaws.{part-append-left, part-append-right, block-inside}
+use Rattle.little.proofs.Laws.{partLaws, blockLaws}
 use Rattle.cauchy.specs.Code.{joined}
-use Rattle.sfc.specs.answer.Numbers.{Answered}
 use Rattle.little.specs.Runs.{any, risingFrom}
 use Rattle.sfc.specs.format.Limits.{wantedBlocks}
 use Rattle.sfc.specs.session.Lent.{shapeWrong}
@@ -21,6 +20,7 @@ use Rattle.sfc.specs.format.Chunk.{indexOf, payloadOf, chunkChecks, alon
 use Rattle.sfc.specs.answer.Places.{number, place}
 use Rattle.sfc.specs.writing.Writer.{Input, blocks, body, region, preamble, trailer, payload, chunk, fileOf, nameWrong, hasReserved, writeFile, headFor}
 use Rattle.sfc.specs.demand.Demand2.{Lawful, plain, Demand2}
+use Rattle.sfc.specs.answer.Numbers.{Answered}
 use Rattle.sfc.specs.declared.format.chunk.ChunkChecked.the-variants.{Whole, Refused}
 use Rattle.sfc.specs.declared.answer.written.Written.{Written}
 use Rattle.sfc.specs.declared.answer.written.Written.the-variants.{Bytes as Took}
@@ -90,8 +90,8 @@ module _ (w : Input) (l : Lawful w) where
         let n : 12 + length (body w) ≡ length (preamble ++ region w) = omega (arith, length-append preamble (region w), preamble-long, length-region w) in
         let z : 0 + i ≡ i = omega arith in
         ap₂ (λ (f : List ℕ) (k : ℕ). part f (k + i * (84 + w .s)) (84 + w .s)) (append-assoc (preamble ++ region w) chunks (trailer w)) n
-        ∙ part-append-right (preamble ++ region w) (chunks ++ trailer w) (i * (84 + w .s)) (84 + w .s)
-        ∙ part-append-left chunks (trailer w) (i * (84 + w .s)) (84 + w .s) (omega (arith, chunks-long, block-inside (84 + w .s) (blocks w + w .m) i h))
+        ∙ partLaws .part-append-right (preamble ++ region w) (chunks ++ trailer w) (i * (84 + w .s)) (84 + w .s)
+        ∙ partLaws .part-append-left chunks (trailer w) (i * (84 + w .s)) (84 + w .s) (omega (arith, chunks-long, blockLaws .block-inside (84 + w .s) (blocks w + w .m) i h))
         ∙ block-joined (84 + w .s) (chunk w) 0 (blocks w + w .m) i (λ j a b. length-written w (l .uuid-long) (l .right) j) h ∙ ap (chunk w) z
 
     chunk-read-back : (rest : List ℕ) → (checkChunk (headFor w) (chunk w i ++ rest) ≡ Whole (number i) (place 48)) × (payloadOf (chunk w i ++ rest) ≡ payload w i)

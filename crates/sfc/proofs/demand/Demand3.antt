@@ -8,10 +8,10 @@ use borrow.Author.Tests.{ltb-true, lt-ltb, le-ltb, eqb-false, ne-eqb, not-true}
 use lib.Dec.{ltb}
 use lib.ListN.{length, getD}
 use Rattle.little.specs.Parts.{put, block}
-use Rattle.little.proofs.TestLaws.{or-false, and-both}
+use Rattle.little.proofs.Laws.{testLaws}
 use Rattle.cauchy.specs.Decode.{decode, decoded, holding}
 use Rattle.cauchy.specs.Theorems.{Shape}
-use Rattle.cauchy.proofs.ForUpperFloors.{as-decoded}
+use Rattle.cauchy.proofs.Laws.{missingLaws}
 use Rattle.cauchy.proofs.Theorems.{theorems}
 use Rattle.sfc.specs.answer.Numbers.{Answered}
 use Rattle.sfc.specs.session.Marks.{isHeld}
@@ -20,6 +20,7 @@ use Rattle.sfc.specs.session.Session.{Session}
 use Rattle.sfc.specs.note.Missing.{missing, listMissing}
 use Rattle.little.specs.Runs.{among}
 use Rattle.sfc.specs.demand.Demand3.{Right, heldIn, Fitting, Gives, Withholds, HandsOut, Open, Free, Used, Demand3}
+use Rattle.sfc.specs.session.Right.{RightLent}
 use Rattle.sfc.specs.declared.format.header.Head.{Head}
 use Rattle.sfc.specs.declared.note.missing.Listed.{Listed}
 use Rattle.sfc.specs.declared.note.missing.Listed.the-variants.{Count}
@@ -27,7 +28,7 @@ use Rattle.sfc.proofs.session.OfferLaws.{one-offer}
 use Rattle.sfc.proofs.session.HistoryLaws.{many-offers}
 use Rattle.sfc.proofs.session.EndLaws.{end-state}
 use Rattle.sfc.proofs.session.CountLaws.{tallies-count}
-use Rattle.sfc.proofs.session.SessionLaws.{RightLent, right-lent}
+use Rattle.sfc.proofs.session.SessionLaws.{right-lent}
 use Rattle.sfc.proofs.note.MissingExact.{missing-exact}
 use Rattle.sfc.proofs.session.HeldLaws.{right-code, block-decoded}
 use Rattle.sfc.proofs.give.GivenLaws.{gives-enough, gives-held, withholds, hands-out, complete-has-hash}
@@ -55,7 +56,7 @@ module _ (h : Head) (x : Session) (r : Right h x) where
       block-known j q = subst (Gives h x j) (sym (known j q)) (gives-enough h x j q enough)
 
       content-known : HandsOut h x d
-      content-known = hands-out h x d enough (sym (as-decoded (h .n) (h .m) (h .s) (x .marks) (x .store) d (f .blocks .0) known))
+      content-known = hands-out h x d enough (sym (missingLaws .as-decoded (h .n) (h .m) (h .s) (x .marks) (x .store) d (f .blocks .0) known))
 
     used-given : (d : List ℕ) × Used h x d × ((j : ℕ) → j < h .n → Gives h x j (block (h .s) d j)) × HandsOut h x d × ((e : List ℕ) → Used h x e → e ≡ d)
     used-given =
@@ -90,8 +91,8 @@ module _ (h : Head) (x : Session) (r : Right h x) where
 
   missing-open : (j : ℕ) → among j (missing (h .n) (x .marks)) ≡ true → Open h x j
   missing-open j e =
-      let a = and-both _ _ (sym (listed j) ∙ e) in
-      let b = and-both _ _ (a .1) in
+      let a = testLaws .and-both _ _ (sym (listed j) ∙ e) in
+      let b = testLaws .and-both _ _ (a .1) in
       record {
         is-data = ltb-true j (h .n) (b .0);
         few = ltb-true (heldIn x) (h .n) (a .0);
@@ -106,7 +107,7 @@ module _ (h : Head) (x : Session) (r : Right h x) where
       (record { answer = Count (length (missing (h .n) (x .marks))); output = put out 0 (missing (h .n) (x .marks)) })
   unfolding listMissing lentWrong
   missing-given out l =
-      rw (or-false (marksWrong (h .size) (h .n) (h .m) (h .s) (x .marks)) _ (r .lent) .0, le-ltb (length out) (length (missing (h .n) (x .marks))) l)
+      rw (testLaws .or-false (marksWrong (h .size) (h .n) (h .m) (h .s) (x .marks)) _ (r .lent) .0, le-ltb (length out) (length (missing (h .n) (x .marks))) l)
 
 pub demand3 : Demand3
 demand3 = record {

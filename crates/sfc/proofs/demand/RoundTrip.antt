@@ -12,7 +12,7 @@ use lib.ListN.{length, getD, take}
 use lib.Seq.{take-at}
 use Rattle.little.specs.Fields.{Bytes, bytesOf}
 use Rattle.little.specs.Parts.{put, block}
-use Rattle.little.proofs.FieldLaws.{laws, bytes-append, bytes-part}
+use Rattle.little.proofs.Laws.{littleLaws, byteLaws, sameLaws}
 use Rattle.blake3.specs.Tree.{hash}
 use Rattle.cauchy.specs.Code.{joined, recoveryWord, recoveryBlock, codeBlock}
 use Rattle.little.specs.Runs.{any, zeros, same, among}
@@ -30,14 +30,14 @@ use Rattle.sfc.specs.give.HandOut.{Rebuilding, lentAfter, handOut}
 use Rattle.sfc.specs.writing.Writer.{Input, size, blocks, dataOf, payload, chunk, headFor}
 use Rattle.sfc.specs.demand.Demand2.{AllBelow, different, received, answers, RoomFor}
 use Rattle.sfc.specs.demand.Demand3.{Right, Fitting}
+use Rattle.sfc.specs.session.Right.{RightShape, RightLent}
 use Rattle.sfc.specs.declared.answer.reason.Checked.the-variants.{Good}
 use Rattle.sfc.specs.declared.session.offer.Verdict.{Verdict}
 use Rattle.sfc.specs.declared.session.offer.Verdict.the-variants.{Fresh, Repeat}
 use Rattle.sfc.specs.declared.give.hand_out.HandedOut.{HandedOut}
 use Rattle.sfc.specs.declared.give.hand_out.HandedOut.the-variants.{Complete}
-use Rattle.little.proofs.RunLaws.{same-refl}
-use Rattle.sfc.proofs.session.MarkLaws.{RightShape, right-shape}
-use Rattle.sfc.proofs.session.SessionLaws.{RightLent, right-lent, verdict-fresh, verdict-repeat}
+use Rattle.sfc.proofs.session.MarkLaws.{right-shape}
+use Rattle.sfc.proofs.session.SessionLaws.{right-lent, verdict-fresh, verdict-repeat}
 use Rattle.sfc.proofs.session.HistoryLaws.{after-tallies, total-counted, not-full}
 use Rattle.sfc.proofs.session.OfferLaws.{one-offer}
 use Rattle.sfc.proofs.session.RightLaws.{bytes-zeros, zero-at, blank-right, after-right}
@@ -51,15 +51,15 @@ use Rattle.sfc.proofs.writing.ChunkBack.{Made, index-back, payload-back
 bytes-joined : (f : ℕ → List ℕ) (c n : ℕ) → ((k : ℕ) → Bytes (f k)) → Bytes (joined f c n)
 unfolding joined
 bytes-joined f c zero b = λ i. omega arith
-bytes-joined f c (suc n) b = bytes-append (f c) (joined f (suc c) n) (b c) (bytes-joined f (suc c) n b)
+bytes-joined f c (suc n) b = byteLaws .bytes-append (f c) (joined f (suc c) n) (b c) (bytes-joined f (suc c) n b)
 
 bytes-code : (n m s : ℕ) (d : List ℕ) (i : ℕ) → Bytes d → Bytes (codeBlock n m s d i)
 unfolding codeBlock recoveryBlock
 bytes-code n m s d i b = go (ltb i n)
   where
     go : (t : Bool) → Bytes (cond t (block s d i) (joined (λ w. bytesOf 2 (recoveryWord n m s d (i - n) w)) 0 (s / 2)))
-    go true = bytes-part d (i * s) s b
-    go false = bytes-joined (λ w. bytesOf 2 (recoveryWord n m s d (i - n) w)) 0 (s / 2) (λ k. laws 2 .bytes (recoveryWord n m s d (i - n) k))
+    go true = byteLaws .bytes-part d (i * s) s b
+    go false = bytes-joined (λ w. bytesOf 2 (recoveryWord n m s d (i - n) w)) 0 (s / 2) (λ k. littleLaws 2 .bytes (recoveryWord n m s d (i - n) k))
 
 module _ (w : Input) (u : length (w .uuid) ≡ 16) (sh : shapeWrong (size w) (blocks w) (w .m) (w .s) ≡ false) where
   right : RightShape (size w) (blocks w) (w .m) (w .s)
@@ -67,7 +67,7 @@ module _ (w : Input) (u : length (w .uuid) ≡ 16) (sh : shapeWrong (size w) (bl
 
   bytes-data : Bytes (w .content) → Bytes (dataOf w)
   unfolding dataOf
-  bytes-data b = bytes-append (w .content) (zeros (blocks w * w .s - size w)) b (bytes-zeros (blocks w * w .s - size w))
+  bytes-data b = byteLaws .bytes-append (w .content) (zeros (blocks w * w .s - size w)) b (bytes-zeros (blocks w * w .s - size w))
 
   content-first : take (size w) (dataOf w) ≡ w .content
   unfolding dataOf
@@ -133,7 +133,7 @@ module _ (w : Input) (u : length (w .uuid) ≡ 16) (sh : shapeWrong (size w) (bl
           let m : mark x (indexOf c) ≡ 1 = ap (mark x) (g .index) ∙ k .marks i h ∙ ap (λ (t : Bool). cond t 1 0) e in
           let s : same (blockOf (headFor w) x (indexOf c)) (payloadOf c) ≡ true =
           ap₂ (λ (j : ℕ) (l : List ℕ). same (blockOf (headFor w) x j) l) (g .index) (g .brings)
-          ∙ ap (λ (l : List ℕ). same l (payload w i)) (k .held i h e) ∙ same-refl (payload w i) in
+          ∙ ap (λ (l : List ℕ). same l (payload w i)) (k .held i h e) ∙ sameLaws .same-refl (payload w i) in
           rw (g .index) at (verdict-repeat (headFor w) x c past m s)
 
       known-also : (j : ℕ) → Dec (j ≡ i) → (eqb j i || p j) ≡ p j
@@ -276,4 +276,4 @@ module _ (w : Input) (u : length (w .uuid) ≡ 16) (sh : shapeWrong (size w) (bl
         round-trip enough =
             demand3 .content-known (headFor w) (received w is) (received-holds .right) (omega (arith, count)) (dataOf w) fitting l
             (record { right = lent-right; long = room .output-long })
-            ∙ (rw (content-first, same-refl (hash (w .content))))
+            ∙ (rw (content-first, sameLaws .same-refl (hash (w .content))))

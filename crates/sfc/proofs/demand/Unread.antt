@@ -11,9 +11,9 @@ use lib.ListN.{length, take, length-append, List·getD-append}
 use lib.Seq.{take-append-le, drop-at}
 use Rattle.little.specs.Parts.{part}
 use Rattle.little.specs.Fields.{le}
-use Rattle.little.proofs.PartLaws.{part-append-left}
-use Rattle.little.proofs.FieldLaws.{le-same}
+use Rattle.little.proofs.Laws.{partLaws, byteLaws}
 use Rattle.blake3.specs.Tree.{hash}
+use Rattle.blake3.proofs.Laws.{hashLaws}
 use Rattle.sfc.specs.format.Bytes.{standsAt}
 use Rattle.little.specs.Runs.{zeros}
 use Rattle.sfc.specs.answer.Numbers.{Check, checked, verdict}
@@ -29,13 +29,12 @@ use Rattle.sfc.specs.declared.format.header.Head.{Head}
 use Rattle.sfc.specs.declared.format.chunk.ChunkChecked.the-variants.{Whole, Refused as Wrong}
 use Rattle.sfc.specs.declared.session.offer.Verdict.{Verdict}
 use Rattle.sfc.specs.declared.session.offer.Verdict.the-variants.{Fresh, Repeat, Refused}
-use Rattle.sfc.proofs.writing.LengthLaws.{length-hash}
 
 -- ---- what lies inside c, with any bytes after c
 
 module _ (c rest : List ℕ) where
   le-front : (at width : ℕ) → at + width ≤ length c → le (c ++ rest) at width ≡ le c at width
-  le-front at width i = le-same width (c ++ rest) c at at (λ k u. List·getD-append c rest 0 (at + k) (omega arith))
+  le-front at width i = byteLaws .le-same width (c ++ rest) c at at (λ k u. List·getD-append c rest 0 (at + k) (omega arith))
 
   stands-front : (at : ℕ) (ys : List ℕ) → at + length ys ≤ length c → standsAt (c ++ rest) at ys ≡ standsAt c at ys
   unfolding standsAt
@@ -60,7 +59,7 @@ module _ (c rest : List ℕ) (whole : chunkLength c ≤ length c) where
   same-length = le-front c rest 28 4 (omega arith)
 
   same-payload : payloadOf (c ++ rest) ≡ payloadOf c
-  same-payload = ap (λ (n : ℕ). part (c ++ rest) 48 n) same-length ∙ part-append-left c rest 48 (payloadLength c) (omega arith)
+  same-payload = ap (λ (n : ℕ). part (c ++ rest) 48 n) same-length ∙ partLaws .part-append-left c rest 48 (payloadLength c) (omega arith)
 
   module _ (h : Head) (uuid-long : length (h .uuid) ≡ 16) where
     same-checks : chunkChecks h (c ++ rest) ≡ chunkChecks h c
@@ -73,7 +72,7 @@ module _ (c rest : List ℕ) (whole : chunkLength c ≤ length c) where
           long-front c rest (chunkLength c) whole,
           take-append-le (48 + payloadLength c) c rest (omega arith),
           stands-front c rest 0 chunkMagic (omega arith),
-          stands-front c rest (48 + payloadLength c) (hash (take (48 + payloadLength c) c)) (omega (arith, length-hash (take (48 + payloadLength c) c))),
+          stands-front c rest (48 + payloadLength c) (hash (take (48 + payloadLength c) c)) (omega (arith, hashLaws .length-hash (take (48 + payloadLength c) c))),
           stands-front c rest (80 + payloadLength c) endMarker (omega arith),
           stands-front c rest 4 (h .uuid) (omega arith),
           stands-front c rest 34 (zeros 14) (omega arith),
@@ -136,7 +135,7 @@ module _ (a t : List ℕ) (a-long : length a ≡ lengthField a + 12) (t-long : l
 
     same-region : regionOf given ≡ regionOf a
     same-region =
-        ap₂ (λ (l : List ℕ) (n : ℕ). part l 8 (n + 4)) a-first same-field ∙ part-append-left a (mid ++ t) 8 (lengthField a + 4) (omega arith)
+        ap₂ (λ (l : List ℕ) (n : ℕ). part l 8 (n + 4)) a-first same-field ∙ partLaws .part-append-left a (mid ++ t) 8 (lengthField a + 4) (omega arith)
 
     same-trailer : trailerOf given ≡ t
     same-trailer = drop-at (a ++ mid) t (length given - 64) (omega (arith, given-long, length-append a mid))

@@ -10,7 +10,7 @@ use lib.Dec.{ltb, leb}
 use lib.ListN.{length, drop, length-drop, drop-of-length-le}
 use Rattle.little.specs.Fields.{le}
 use Rattle.little.specs.Runs.{any, risingFrom}
-use Rattle.little.proofs.PartLaws.{below-or}
+use Rattle.little.proofs.Laws.{testLaws}
 use Rattle.sfc.specs.format.Extension.{Field, fieldAt, nextField, fieldsIn, leftIn, fieldsOf, leftOf, ruleBroken, fieldWrong, extensionWrong}
 use Rattle.sfc.proofs.format.FieldWalk.{not-whole-front, not-whole-value, is-whole, none-there, value-long, next-inside, field-there, left-there}
 
@@ -32,7 +32,7 @@ next-there e h k = rw (is-whole e h k)
 
 not-leb : (a b : ℕ) → not (leb a b) ≡ ltb b a
 not-leb a b =
-    ⊎-elim (λ (h : b < a). rw (lt-leb a b h, lt-ltb b a h)) (λ (h : a ≤ b). rw (le-leb a b h, le-ltb b a h)) (below-or b a)
+    ⊎-elim (λ (h : b < a). rw (lt-leb a b h, lt-ltb b a h)) (λ (h : a ≤ b). rw (le-leb a b h, le-ltb b a h)) (testLaws .below-or b a)
 
 module _ (blocks flags : ℕ) where
   -- bytes are left after these fields, or their tags do not rise from `least` on, or one of them breaks a rule

@@ -9,7 +9,7 @@ use lib.ListN.{length, take, drop, length-drop}
 use lib.Seq.{drop-drop}
 use Rattle.little.specs.Parts.{part}
 use Rattle.little.specs.Fields.{le}
-use Rattle.little.proofs.PartLaws.{length-part}
+use Rattle.little.proofs.Laws.{partLaws}
 use Rattle.sfc.specs.answer.Numbers.{verdict}
 use Rattle.sfc.specs.format.Extension.{wholeField, fieldAt, fieldsIn, fieldsOf}
 use Rattle.sfc.specs.format.Header.{lengthField, regionOf, headerChecks}
@@ -43,9 +43,9 @@ found-inside (suc most) tag at e p n f = go (wholeField e) refl (λ k g. found-i
         → p + n ≤ at + length e
     first q true after g =
         let s = same-found (at + 6) p (length (part e 6 (le e 2 4))) n g in
-        omega (arith, whole-long e q, length-part e 6 (le e 2 4) (whole-long e q), s .0, s .1)
+        omega (arith, whole-long e q, partLaws .length-part e 6 (le e 2 4) (whole-long e q), s .0, s .1)
     first q false after g =
-        omega (arith, whole-long e q, length-part e 6 (le e 2 4) (whole-long e q), after (at + 6 + length (part e 6 (le e 2 4))) g, length-drop (6 + le e 2 4) e)
+        omega (arith, whole-long e q, partLaws .length-part e 6 (le e 2 4) (whole-long e q), after (at + 6 + length (part e 6 (le e 2 4))) g, length-drop (6 + le e 2 4) e)
 
     go : (w : Bool) → wholeField e ≡ w
         → ((k : ℕ) → foundAmong tag k (fieldsIn most (drop (6 + le e 2 4) e)) ≡ At (place p) n → p + n ≤ k + length (drop (6 + le e 2 4) e))
@@ -60,7 +60,7 @@ pub field-in-region : (b : List ℕ) (tag p long : ℕ) → verdict (headerCheck
 field-in-region b tag p long good f =
     let i = fields-inside b good in
     let n = found-inside (length (extensionOf (regionOf b))) tag (extensionPlace (regionOf b)) (extensionOf (regionOf b)) p long f in
-    let l : length (regionOf b) ≡ lengthField b + 4 = length-part b 8 (lengthField b + 4) (omega (arith, i .trailer-room)) in
+    let l : length (regionOf b) ≡ lengthField b + 4 = partLaws .length-part b 8 (lengthField b + 4) (omega (arith, i .trailer-room)) in
     (omega (arith, n, l, i .list-ends, length-drop (335 + 4 * le (regionOf b) 333 2) (regionOf b)), i .trailer-room)
 
 -- ---- its value is there
@@ -79,11 +79,11 @@ value-in (suc most) tag at e p n f = go (wholeField e) refl (λ k g. value-in mo
     first q true after g =
         let s = same-found (at + 6) p (length (part e 6 (le e 2 4))) n g in
         let i : p - at ≡ 6 = omega (arith, s .0) in
-        let v : n ≡ le e 2 4 = sym (s .1) ∙ length-part e 6 (le e 2 4) (whole-long e q) in
+        let v : n ≡ le e 2 4 = sym (s .1) ∙ partLaws .length-part e 6 (le e 2 4) (whole-long e q) in
         (omega (arith, s .0), ap₂ (λ (j k : ℕ). part e j k) i v)
     first q false after g =
         let r = after (at + 6 + length (part e 6 (le e 2 4))) g in
-        let v = length-part e 6 (le e 2 4) (whole-long e q) in
+        let v = partLaws .length-part e 6 (le e 2 4) (whole-long e q) in
         let i : p - at ≡ 6 + le e 2 4 + (p - (at + 6 + length (part e 6 (le e 2 4)))) = omega (arith, r .0, v) in
         (omega (arith, r .0), ap (λ (j : ℕ). part e j n) i ∙ ap (take n) (sym (drop-drop (p - (at + 6 + length (part e 6 (le e 2 4)))) (6 + le e 2 4) e)) ∙ r .1)
 

@@ -11,9 +11,7 @@ use lib.Seq.{drop-drop, getD-drop}
 use Rattle.little.specs.Parts.{part}
 use Rattle.little.specs.Fields.{Bytes, le, bytesOf}
 use Rattle.little.specs.Runs.{any, risingFrom}
-use Rattle.little.proofs.PartLaws.{length-part}
-use Rattle.little.proofs.FieldLaws.{laws}
-use Rattle.little.proofs.TestLaws.{or-false, and-both}
+use Rattle.little.proofs.Laws.{partLaws, testLaws, littleLaws}
 use Rattle.sfc.specs.format.Extension.{Field, fieldBytes, joinedFields, fieldAt, wholeField, nextField, fieldsIn, leftIn, fieldsOf, leftOf, fieldWrong, extensionWrong}
 use Rattle.sfc.specs.format.FieldTheorems.{FieldWalk}
 
@@ -33,7 +31,7 @@ is-whole e h k = rw (le-leb 6 (length e) h, le-leb (6 + le e 2 4) (length e) (om
 
 pub whole-long : (e : List ℕ) → wholeField e ≡ true → 6 + le e 2 4 ≤ length e
 unfolding wholeField
-whole-long e w = leb-true (6 + le e 2 4) (length e) (and-both (leb 6 (length e)) (leb (6 + le e 2 4) (length e)) w .1)
+whole-long e w = leb-true (6 + le e 2 4) (length e) (testLaws .and-both (leb 6 (length e)) (leb (6 + le e 2 4) (length e)) w .1)
 
 -- ---- the bound
 
@@ -107,9 +105,9 @@ ends-in (suc most) e h = go (wholeField e) refl (ends-in most (drop (6 + le e 2 
 field-back : (e : List ℕ) → Bytes e → wholeField e ≡ true → fieldBytes (fieldAt e) ++ drop (6 + le e 2 4) e ≡ e
 field-back e b w =
     let n = whole-long e w in
-    let l : length (part e 6 (le e 2 4)) ≡ le e 2 4 = length-part e 6 (le e 2 4) (omega arith) in
-    let t : bytesOf 2 (le e 0 2) ≡ part e 0 2 = laws 2 .bytes-back e b 0 (omega arith) in
-    let v : bytesOf 4 (length (part e 6 (le e 2 4))) ≡ part e 2 4 = ap (bytesOf 4) l ∙ laws 4 .bytes-back e b 2 (omega arith) in
+    let l : length (part e 6 (le e 2 4)) ≡ le e 2 4 = partLaws .length-part e 6 (le e 2 4) (omega arith) in
+    let t : bytesOf 2 (le e 0 2) ≡ part e 0 2 = littleLaws 2 .bytes-back e b 0 (omega arith) in
+    let v : bytesOf 4 (length (part e 6 (le e 2 4))) ≡ part e 2 4 = ap (bytesOf 4) l ∙ littleLaws 4 .bytes-back e b 2 (omega arith) in
     ap₂ (λ (x y : List ℕ). x ++ y ++ part e 6 (le e 2 4) ++ drop (6 + le e 2 4) e) t v
     ∙ append-assoc (part e 0 2 ++ part e 2 4) (part e 6 (le e 2 4)) (drop (6 + le e 2 4) e)
     ∙ ap (λ (r : List ℕ). part e 0 2 ++ part e 2 4 ++ r) (cut e 6 (le e 2 4))
@@ -139,8 +137,8 @@ joined-exactly : (blocks flags : ℕ) (e : List ℕ) → Bytes e → extensionWr
 unfolding extensionWrong
 joined-exactly blocks flags e b w =
     let rises : Bool = risingFrom 0 (map (λ (f : Field). f .tag) (fieldsOf e)) in
-    let o = or-false (ltb 0 (length (leftOf e)) || not rises) (any (fieldWrong blocks flags) (fieldsOf e)) w in
-    let n : length (leftOf e) ≤ 0 = ltb-false 0 (length (leftOf e)) (or-false (ltb 0 (length (leftOf e))) (not rises) (o .0) .0) in
+    let o = testLaws .or-false (ltb 0 (length (leftOf e)) || not rises) (any (fieldWrong blocks flags) (fieldsOf e)) w in
+    let n : length (leftOf e) ≤ 0 = ltb-false 0 (length (leftOf e)) (testLaws .or-false (ltb 0 (length (leftOf e))) (not rises) (o .0) .0) in
     sym (append-nil (joinedFields (fieldsOf e))) ∙ ap (λ (l : List ℕ). joinedFields (fieldsOf e) ++ l) (sym (empty (leftOf e) n)) ∙ joined e b
   where
     empty : (l : List ℕ) → length l ≤ 0 → l ≡ []
@@ -183,7 +181,7 @@ module _ (e t : List ℕ) (at next : ℕ) (rest : t ≡ drop at e) (says : next 
 
     -- it has a value of that length, and lies inside
     pub value-long : length (fieldAt t .value) ≡ next - 6
-    value-long = length-part t 6 (le t 2 4) (omega (arith, whole-long t (whole .0))) ∙ (omega (arith, whole .1))
+    value-long = partLaws .length-part t 6 (le t 2 4) (omega (arith, whole-long t (whole .0))) ∙ (omega (arith, whole .1))
 
     pub next-inside : (6 ≤ next) × (at + next ≤ length e)
     next-inside = (omega (arith, whole .1), omega (arith, whole .1, whole-long t (whole .0), ap length rest, length-drop at e))

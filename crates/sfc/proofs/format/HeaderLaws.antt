@@ -10,9 +10,7 @@ use lib.ListN.{length, take, drop, drop-of-length-le}
 use lib.Seq.{take-all, take-take}
 use Rattle.little.specs.Parts.{part}
 use Rattle.little.specs.Fields.{le}
-use Rattle.little.proofs.PartLaws.{length-part, part-rest}
-use Rattle.little.proofs.TestLaws.{or-false}
-use Rattle.little.proofs.ListLaws.{copied, drop-zeros}
+use Rattle.little.proofs.Laws.{partLaws, testLaws, putLaws}
 use Rattle.sfc.specs.format.Bytes.{padded, beforeZero}
 use Rattle.little.specs.Runs.{zeros}
 use Rattle.sfc.specs.answer.Numbers.{verdict, checked}
@@ -33,8 +31,8 @@ use Rattle.sfc.proofs.answer.CheckLaws.{passed, refused-then, good-then
 pub priority-inside : (n p : ℕ) (r : List ℕ) → priorityWrong n p r ≡ false → 335 + 4 * p ≤ length r
 unfolding priorityWrong
 priority-inside n p r e =
-    let f = or-false (ltb n p || ltb (length r) (335 + 4 * p)) (not (distinctBelow n (indices r 335 p))) e in
-    omega (arith, ltb-false (length r) (335 + 4 * p) (or-false (ltb n p) (ltb (length r) (335 + 4 * p)) (f .0) .1))
+    let f = testLaws .or-false (ltb n p || ltb (length r) (335 + 4 * p)) (not (distinctBelow n (indices r 335 p))) e in
+    omega (arith, ltb-false (length r) (335 + 4 * p) (testLaws .or-false (ltb n p) (ltb (length r) (335 + 4 * p)) (f .0) .1))
 
 pub lists-priority : (r : List ℕ) (n p : ℕ) (b : Bool) → n ≡ le r 317 4 → p ≡ le r 333 2 → b ≡ priorityWrong n p r → b ≡ true
     → Refused Priority ≡ verdict (listChecks (headOf r) r)
@@ -57,12 +55,12 @@ take-name (suc x ∷ xs) = ap (_∷_ (suc x)) (take-name xs)
 pub name-copied : (r src : List ℕ) (n : ℕ) → 285 ≤ length r → n ≡ length (beforeZero (part r 30 255)) → src ≡ part r 30 (30 + n - 30)
     → take (length src) src ++ drop (length src) (zeros 255) ≡ padded 255 (beforeZero (part r 30 255))
 name-copied r src n h en es =
-    let l : length (part r 30 255) ≡ 255 = length-part r 30 255 (omega arith) in
+    let l : length (part r 30 255) ≡ 255 = partLaws .length-part r 30 255 (omega arith) in
     let f : n ≤ 255 = omega (arith, name-fits (part r 30 255)) in
     let k : 30 + n - 30 ≡ n = omega arith in
     let e : src ≡ beforeZero (part r 30 255) =
     es ∙ ap (λ (m : ℕ). part r 30 m) k ∙ sym (take-take n 255 (drop 30 r) f) ∙ ap (λ (m : ℕ). take m (part r 30 255)) en ∙ take-name (part r 30 255) in
-    rw e (ap₂ _++_ (take-all (length (beforeZero (part r 30 255))) (beforeZero (part r 30 255)) (omega arith)) (drop-zeros (length (beforeZero (part r 30 255))) 255))
+    rw e (ap₂ _++_ (take-all (length (beforeZero (part r 30 255))) (beforeZero (part r 30 255)) (omega arith)) (partLaws .drop-zeros (length (beforeZero (part r 30 255))) 255))
 
 -- ---- the whole
 
@@ -71,13 +69,13 @@ pub start-there : (b : List ℕ) (v : Checked) → v ≡ verdict (startChecks b)
 unfolding lengthWrong
 start-there b v e f =
     let p = passed (startChecks b) (sym e ∙ f) in (
-      omega (arith, ltb-false (lengthField b) 331 (or-false _ _ (p .1 .1 .1 .0) .0)),
+      omega (arith, ltb-false (lengthField b) 331 (testLaws .or-false _ _ (p .1 .1 .1 .0) .0)),
       omega (arith, ltb-false (length b) (lengthField b + 76) (p .1 .1 .1 .1 .0)),
     )
 
 -- the region that the code lends is long enough for its fields
 pub region-long : (b : List ℕ) (h : ℕ) → h ≡ lengthField b → 331 ≤ lengthField b → lengthField b + 76 ≤ length b → 335 ≤ length (part b 8 (12 + h - 8))
-region-long b h e k l = omega (arith, length-part b 8 (12 + h - 8) (omega arith))
+region-long b h e k l = omega (arith, partLaws .length-part b 8 (12 + h - 8) (omega arith))
 
 pub read-refused : (b : List ℕ) (v : Checked) (q : Reason) (x : HeaderRead) → v ≡ verdict (startChecks b) → v ≡ Refused q → x ≡ refusedHeader q → x ≡ readHeader b
 unfolding readHeader
@@ -91,6 +89,6 @@ unfolding readHeader
 read-on b r t h v x e f eh er et g =
     let k : 12 + h - 8 ≡ lengthField b + 4 = omega arith in
     let p : r ≡ regionOf b = er ∙ ap (λ (n : ℕ). part b 8 n) k in
-    let q : t ≡ trailerOf b = et ∙ part-rest b (length b - 64) in
+    let q : t ≡ trailerOf b = et ∙ partLaws .part-rest b (length b - 64) in
     g ∙ ap₂ (λ (y z : List ℕ). checked (regionChecks y ++ trailerChecks y z) refusedHeader (acceptedHeader (headOf y))) p q
     ∙ sym (good-then refusedHeader (startChecks b) (regionChecks (regionOf b) ++ trailerChecks (regionOf b) (trailerOf b)) (acceptedHeader (headOf (regionOf b))) (sym e ∙ f))

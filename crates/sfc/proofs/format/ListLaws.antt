@@ -8,7 +8,7 @@ use lib.Dec.{eqb, ltb}
 use lib.ListN.{length, getD, drop}
 use lib.Seq.{drop-length}
 use Rattle.little.specs.Fields.{le}
-use Rattle.little.proofs.PartLaws.{drop-down}
+use Rattle.little.proofs.Laws.{partLaws}
 use Rattle.little.specs.Runs.{any}
 use Rattle.sfc.specs.format.Header.{indices, distinctBelow}
 
@@ -29,7 +29,7 @@ among-start list x = rw (drop-length list)
 pub among-turn : (list : List ℕ) (x i : ℕ) (found : Bool) → 0 < i → i ≤ length list → found ≡ any (eqb x) (drop i list)
     → (eqb x (getD list (i - 1) 0) || found) ≡ any (eqb x) (drop (i - 1) list)
 unfolding any
-among-turn list x i found h k e = rw (drop-down list i h k, e)
+among-turn list x i found h k e = rw (partLaws .drop-down list i h k, e)
 
 pub distinct-start : (list : List ℕ) (n : ℕ) → true ≡ distinctBelow n (drop (length list) list)
 unfolding distinctBelow
@@ -38,4 +38,4 @@ distinct-start list n = rw (drop-length list)
 pub distinct-turn : (list t : List ℕ) (n i x : ℕ) (good found : Bool) → 0 < i → i ≤ length list → x ≡ getD list (i - 1) 0 → good ≡ distinctBelow n (drop i list)
     → t ≡ drop i list → found ≡ any (eqb x) t → (ltb x n && not found && good) ≡ distinctBelow n (drop (i - 1) list)
 unfolding distinctBelow
-distinct-turn list t n i x good found h k ex eg et ef = rw (drop-down list i h k, ef, et, ex, eg)
+distinct-turn list t n i x good found h k ex eg et ef = rw (partLaws .drop-down list i h k, ef, et, ex, eg)

@@ -10,9 +10,7 @@ use lib.ListN.{length, take, drop, drop-of-length-le}
 use lib.Seq.{drop-drop, take-all}
 use Rattle.little.specs.Parts.{part}
 use Rattle.little.specs.Fields.{le}
-use Rattle.little.proofs.PartLaws.{length-part}
-use Rattle.little.proofs.FieldLaws.{le-part}
-use Rattle.little.proofs.TestLaws.{or-false}
+use Rattle.little.proofs.Laws.{partLaws, byteLaws, testLaws}
 use Rattle.sfc.specs.answer.Numbers.{verdict}
 use Rattle.sfc.specs.format.Limits.{lengthWrong}
 use Rattle.sfc.specs.format.Extension.{nextField, fieldsIn, fieldsOf}
@@ -89,15 +87,15 @@ pub record Inside (b : List ℕ) (h p : ℕ) : Type 0 where
 
 -- the part that the code walks over lies where places of 32 bits reach
 pub part-low : (b : List ℕ) (h p : ℕ) → Inside b h p → 343 + 4 * p + length (part b (343 + 4 * p) (12 + h - (343 + 4 * p))) < 2147483648
-part-low b h p i = omega (arith, i .length-low, i .list-ends, length-part b (343 + 4 * p) (12 + h - (343 + 4 * p)) (omega (arith, i .list-ends, i .trailer-room)))
+part-low b h p i = omega (arith, i .length-low, i .list-ends, partLaws .length-part b (343 + 4 * p) (12 + h - (343 + 4 * p)) (omega (arith, i .list-ends, i .trailer-room)))
 
 pub fields-inside : (b : List ℕ) → verdict (headerChecks b) ≡ Good → Inside b (lengthField b) (le (regionOf b) 333 2)
 unfolding lengthWrong
 fields-inside b good =
     let q = passed (headerChecks b) good in
-    let range = or-false (ltb (lengthField b) 331) (ltb 65536 (lengthField b)) (q .1 .1 .1 .0) in
+    let range = testLaws .or-false (ltb (lengthField b) 331) (ltb 65536 (lengthField b)) (q .1 .1 .1 .0) in
     let room : lengthField b + 76 ≤ length b = ltb-false (length b) (lengthField b + 76) (q .1 .1 .1 .1 .0) in
-    let long : length (regionOf b) ≡ lengthField b + 4 = length-part b 8 (lengthField b + 4) (omega arith) in
+    let long : length (regionOf b) ≡ lengthField b + 4 = partLaws .length-part b 8 (lengthField b + 4) (omega arith) in
     let list = priority-inside (le (regionOf b) 317 4) (le (regionOf b) 333 2) (regionOf b) (q .1 .1 .1 .1 .1 .1 .1 .1 .1 .1 .1 .0) in
     record {
       length-right = ltb-false (lengthField b) 331 (range .0);
@@ -128,7 +126,7 @@ module _ (b : List ℕ) (tag : ℕ) (x : HeaderRead) (says : x ≡ readHeader b)
     same-count = ap (λ (h : Head). h .priorities) head
 
     same-length : x .head .«header_length» ≡ lengthField b
-    same-length = ap (λ (h : Head). h .«header_length») head ∙ le-part 4 b 8 (lengthField b + 4) 0 (omega arith)
+    same-length = ap (λ (h : Head). h .«header_length») head ∙ byteLaws .le-part 4 b 8 (lengthField b + 4) 0 (omega arith)
 
     pub inside : Inside b (x .head .«header_length») (x .head .priorities)
     inside = rw (same-length, same-count) (fields-inside b (told Good good))

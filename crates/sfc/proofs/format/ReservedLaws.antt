@@ -8,7 +8,7 @@ use borrow.Author.Tests.{lt-ltb, ne-eqb}
 use lib.Dec.{ltb, leb, eqb}
 use lib.ListN.{length, drop, drop-of-length-le}
 use Rattle.little.specs.Fields.{le}
-use Rattle.little.proofs.TestLaws.{ltb-suc}
+use Rattle.little.proofs.Laws.{testLaws}
 use Rattle.sfc.specs.format.Bytes.{beforeZero}
 use Rattle.little.specs.Runs.{any}
 use Rattle.sfc.specs.format.Extension.{fieldAt, nextField, fieldsIn, fieldsOf}
@@ -56,7 +56,7 @@ zero-cuts [] = refl
 zero-cuts (zero ∷ b) = lt-ltb 0 (suc (length b)) (omega arith)
 zero-cuts (suc x ∷ b) =
     let e : eqb 0 (suc x) ≡ false = ne-eqb 0 (suc x) (λ z. omega arith) in
-    ltb-suc (length (beforeZero b)) (length b) ∙ zero-cuts b ∙ sym (ap (λ (t : Bool). t || any (eqb 0) b) e)
+    testLaws .ltb-suc (length (beforeZero b)) (length b) ∙ zero-cuts b ∙ sym (ap (λ (t : Bool). t || any (eqb 0) b) e)
 
 pub name-tests : (b : List ℕ) (n : ℕ) → n ≡ length (beforeZero b) → (ltb 255 (length b) || ltb n (length b)) ≡ nameWrong b
 unfolding nameWrong

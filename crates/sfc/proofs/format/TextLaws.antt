@@ -7,7 +7,7 @@ use native.Mathlib.Omega.{arith}
 use lib.Dec.{eqb}
 use lib.ListN.{length, getD, drop}
 use lib.Seq.{drop-length}
-use Rattle.little.proofs.PartLaws.{drop-down}
+use Rattle.little.proofs.Laws.{partLaws}
 use Rattle.sfc.specs.format.Bytes.{standsAt, beforeZero}
 
 pub stands-start : (s : List ℕ) (at : ℕ) (wanted : List ℕ) → true ≡ standsAt s (at + length wanted) (drop (length wanted) wanted)
@@ -19,7 +19,7 @@ pub stands-turn : (s wanted : List ℕ) (at i : ℕ) (same : Bool) → 0 < i →
 unfolding standsAt
 stands-turn s wanted at i same h k e =
     let f : suc (at + (i - 1)) ≡ at + i = omega arith in
-    rw (drop-down wanted i h k, f, e)
+    rw (partLaws .drop-down wanted i h k, f, e)
 
 name-front : (x : ℕ) (xs : List ℕ) → (x ≡ 0 → ⊥) → length (beforeZero (x ∷ xs)) ≡ length (beforeZero xs) + 1
 unfolding beforeZero
@@ -32,11 +32,11 @@ name-start xs = rw drop-length
 
 pub name-ends : (xs : List ℕ) (i : ℕ) → 0 < i → i ≤ length xs → getD xs (i - 1) 0 ≡ 0 → 0 ≡ length (beforeZero (drop (i - 1) xs))
 unfolding beforeZero
-name-ends xs i h k e = rw (drop-down xs i h k, e)
+name-ends xs i h k e = rw (partLaws .drop-down xs i h k, e)
 
 pub name-more : (xs : List ℕ) (i n : ℕ) → 0 < i → i ≤ length xs → (getD xs (i - 1) 0 ≡ 0 → ⊥) → n ≡ length (beforeZero (drop i xs))
     → n + 1 ≡ length (beforeZero (drop (i - 1) xs))
-name-more xs i n h k d e = rw (drop-down xs i h k) (ap (λ (m : ℕ). m + 1) e ∙ sym (name-front (getD xs (i - 1) 0) (drop i xs) d))
+name-more xs i n h k d e = rw (partLaws .drop-down xs i h k) (ap (λ (m : ℕ). m + 1) e ∙ sym (name-front (getD xs (i - 1) 0) (drop i xs) d))
 
 -- a name is no longer than its field
 pub name-fits : (xs : List ℕ) → length (beforeZero xs) ≤ length xs

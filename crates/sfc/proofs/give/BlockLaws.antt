@@ -10,9 +10,9 @@ use lib.Dec.{ltb, leb}
 use lib.ListN.{length, getD, take, drop}
 use lib.Seq.{length-take-le}
 use Rattle.little.specs.Parts.{part, put}
-use Rattle.little.proofs.PartLaws.{block-inside}
+use Rattle.little.proofs.Laws.{blockLaws, partLaws, putLaws}
 use Rattle.cauchy.specs.Decode.{held, rank, decode}
-use Rattle.cauchy.proofs.ForUpperFloors.{length-held, length-missing}
+use Rattle.cauchy.proofs.Laws.{missingLaws}
 use Rattle.little.specs.Runs.{zeros}
 use Rattle.sfc.specs.session.Marks.{isHeld, heldCount}
 use Rattle.sfc.specs.answer.Places.{number, place}
@@ -26,7 +26,6 @@ use Rattle.sfc.specs.declared.give.block.BlockGiven.{BlockGiven}
 use Rattle.sfc.specs.declared.give.block.BlockGiven.the-variants.{Unverified, Refused as NoBlock}
 use Rattle.sfc.proofs.session.HeldLaws.{decode-held}
 use Rattle.sfc.proofs.give.GatherLaws.{row-in, row-block}
-use Rattle.little.proofs.ListLaws.{cut-long, copied-front}
 use Rattle.sfc.proofs.give.RebuildLaws.{few-told, enough-told}
 
 -- ---- the block request
@@ -79,15 +78,15 @@ had-lost marks n j r e f = rw (ne-eqb (getD marks j 0) 1 e) (f ∙ ap not (sym (
 pub rank-rest : (marks : List ℕ) (j : ℕ) → j ≤ length marks → (heldCount (take j marks) ≤ j) × (j - heldCount (take j marks) ≡ rank j marks)
 unfolding rank
 rank-rest marks j h =
-    let e = length-missing 0 (held (take j marks)) in
-    let l = length-held (take j marks) in
+    let e = missingLaws .length-missing 0 (held (take j marks)) in
+    let l = missingLaws .length-held (take j marks) in
     let k = length-take-le j marks h in
     (omega (arith, e, l, k), omega (arith, e, l, k))
 
 module _ (n m s : ℕ) (store marks scratch numbers : List ℕ) (able : Rebuildable n m s store marks scratch numbers) (j : ℕ) (h : j < n) where
   pub held-in : (j * s + s ≤ length store) × (j * s + s ≤ 4325376)
   held-in =
-      let b = block-inside s (n + m) j (omega arith) in
+      let b = blockLaws .block-inside s (n + m) j (omega arith) in
       let k : (n + m) * s ≤ 1056 * 4096 = mul-le-mul {n₁ = n + m} {m₁ = s} {n₂ = 1056} {m₂ = 4096} (omega (arith, able .n-most, able .m-most)) (able .s-most) in
       (omega (arith, able .store-long, b), omega (arith, b, k))
 
@@ -96,20 +95,20 @@ module _ (n m s : ℕ) (store marks scratch numbers : List ℕ) (able : Rebuilda
       → (true ≡ not (ltb (heldCount marks) n && not (isHeld (getD marks j 0)))) × (ys ≡ put out 0 (decode n m s marks store j))
   held-given out ys room e f =
       let w : j * s + s - j * s ≡ s = omega arith in
-      let l : length (part store (j * s) (j * s + s - j * s)) ≡ s = cut-long store (j * s) s (held-in .0) in
-      (had-held marks n j e, copied-front out (part store (j * s) (j * s + s - j * s)) ys s room l f ∙ ap (put out 0) (ap (part store (j * s)) w ∙ sym (decode-held n m s marks store j e)))
+      let l : length (part store (j * s) (j * s + s - j * s)) ≡ s = partLaws .cut-long store (j * s) s (held-in .0) in
+      (had-held marks n j e, putLaws .copied-front out (part store (j * s) (j * s + s - j * s)) ys s room l f ∙ ap (put out 0) (ap (part store (j * s)) w ∙ sym (decode-held n m s marks store j e)))
 
   module _ (after : List ℕ) (restored : Restored n m s marks store after) (lost : getD marks j 0 ≡ 1 → ⊥) (row : ℕ) (row-is : row ≡ rank j marks) where
     pub lost-in : row * s + s ≤ length after
     lost-in = row-in n m s marks store after restored j h lost row row-is
 
     pub lost-long : length (part after (row * s) (row * s + s - row * s)) ≡ s
-    lost-long = cut-long after (row * s) s lost-in
+    lost-long = partLaws .cut-long after (row * s) s lost-in
 
     pub lost-given : (out ys : List ℕ) → s ≤ length out
         → ys ≡ take (length (part after (row * s) (row * s + s - row * s))) (part after (row * s) (row * s + s - row * s)) ++ drop (length (part after (row * s) (row * s + s - row * s))) out
         → ys ≡ put out 0 (decode n m s marks store j)
     lost-given out ys room f =
         let w : row * s + s - row * s ≡ s = omega arith in
-        copied-front out (part after (row * s) (row * s + s - row * s)) ys s room lost-long f
+        putLaws .copied-front out (part after (row * s) (row * s + s - row * s)) ys s room lost-long f
         ∙ ap (put out 0) (ap (part after (row * s)) w ∙ row-block n m s marks store after restored j h lost row row-is)

@@ -10,17 +10,15 @@ use native.Mathlib.Nat.{mul-le-mul-right}
 use lib.ListN.{length, getD, take, drop}
 use lib.Seq.{take-all, take-take, getD-take, length-take-le}
 use Rattle.little.specs.Parts.{part, put, block}
-use Rattle.little.proofs.PartLaws.{below-or, lent, length-part, length-put, block-inside, put-none}
+use Rattle.little.proofs.Laws.{testLaws, putLaws, partLaws, blockLaws}
 use Rattle.blake3.specs.Tree.{hash}
 use Rattle.blake3.specs.Running.{withBytes, fresh, finished}
 use Rattle.blake3.specs.declared.running.Running.{Running}
 use Rattle.blake3.specs.declared.running.Finished.{Finished}
-use Rattle.blake3.proofs.RunningLaws.{with-both}
-use Rattle.blake3.proofs.AnyCut.{fed-bytes}
+use Rattle.blake3.proofs.Laws.{feedLaws}
 use Rattle.cauchy.specs.Code.{joined}
 use Rattle.cauchy.specs.Decode.{held, missing, missingData, rank, decode, decoded}
-use Rattle.cauchy.proofs.ForUpperFloors.{length-held, held-one, held-none, held-take, missing-at, missing-more, missing-same}
-use Rattle.little.proofs.ListLaws.{copied, put-next, copied-in, length-cut, cut-long}
+use Rattle.cauchy.proofs.Laws.{missingLaws}
 use Rattle.sfc.proofs.session.HeldLaws.{decode-held, length-decode}
 use Rattle.sfc.specs.inner.Gather.{Restored, Cut}
 
@@ -37,31 +35,31 @@ rank-none marks = refl
 
 rank-taken : (marks : List ℕ) (j : ℕ) → rank j marks ≡ length (missing 0 (take j (held marks)))
 unfolding rank
-rank-taken marks j = ap (λ (x : List ℕ). length (missing 0 x)) (held-take j marks)
+rank-taken marks j = ap (λ (x : List ℕ). length (missing 0 x)) (missingLaws .held-take j marks)
 
 pub rank-held : (marks : List ℕ) (j : ℕ) → getD marks j 0 ≡ 1 → rank (j + 1) marks ≡ rank j marks
 rank-held marks j e =
-    let h : 0 < getD (held marks) j 0 = omega (arith, held-one marks j e) in
-    ap (λ (k : ℕ). rank k marks) (add-one j) ∙ rank-taken marks (suc j) ∙ missing-same 0 (held marks) j h ∙ sym (rank-taken marks j)
+    let h : 0 < getD (held marks) j 0 = omega (arith, missingLaws .held-one marks j e) in
+    ap (λ (k : ℕ). rank k marks) (add-one j) ∙ rank-taken marks (suc j) ∙ missingLaws .missing-same 0 (held marks) j h ∙ sym (rank-taken marks j)
 
 pub rank-lost : (marks : List ℕ) (j : ℕ) → j < length marks → (getD marks j 0 ≡ 1 → ⊥) → rank (j + 1) marks ≡ rank j marks + 1
 rank-lost marks j h e =
-    let l : j < length (held marks) = omega (arith, length-held marks) in
-    ap (λ (k : ℕ). rank k marks) (add-one j) ∙ rank-taken marks (suc j) ∙ missing-more 0 (held marks) j l (held-none marks j e)
+    let l : j < length (held marks) = omega (arith, missingLaws .length-held marks) in
+    ap (λ (k : ℕ). rank k marks) (add-one j) ∙ rank-taken marks (suc j) ∙ missingLaws .missing-more 0 (held marks) j l (missingLaws .held-none marks j e)
     ∙ ap suc (sym (rank-taken marks j)) ∙ sym (add-one (rank j marks))
 
 rank-within : (n : ℕ) (marks : List ℕ) (j : ℕ) → j ≤ n → rank j marks ≡ length (missing 0 (take j (held (take n marks))))
 unfolding rank
-rank-within n marks j h = ap (λ (x : List ℕ). length (missing 0 x)) (ap held (sym (take-take j n marks h)) ∙ held-take j (take n marks))
+rank-within n marks j h = ap (λ (x : List ℕ). length (missing 0 x)) (ap held (sym (take-take j n marks h)) ∙ missingLaws .held-take j (take n marks))
 
 -- a missing block stands in the list of them at the place that its rank says
 rank-place : (n : ℕ) (marks : List ℕ) (j : ℕ) → n ≤ length marks → j < n → (getD marks j 0 ≡ 1 → ⊥)
     → (getD (missingData n marks) (rank j marks) 0 ≡ j) × (rank j marks < length (missingData n marks))
 rank-place n marks j hn hj e =
-    let z : getD (held (take n marks)) j 0 ≡ 0 = held-none (take n marks) j (λ q. e (sym (getD-take n marks j 0 hj) ∙ q)) in
-    let l : j < length (held (take n marks)) = omega (arith, length-held (take n marks), length-take-le n marks hn) in
+    let z : getD (held (take n marks)) j 0 ≡ 0 = missingLaws .held-none (take n marks) j (λ q. e (sym (getD-take n marks j 0 hj) ∙ q)) in
+    let l : j < length (held (take n marks)) = omega (arith, missingLaws .length-held (take n marks), length-take-le n marks hn) in
     let t : rank j marks ≡ length (missing 0 (take j (held (take n marks)))) = rank-within n marks j (omega arith) in
-    let p = missing-at 0 0 (held (take n marks)) j l z in
+    let p = missingLaws .missing-at 0 0 (held (take n marks)) j l z in
     (ap (λ (k : ℕ). getD (missingData n marks) k 0) t ∙ p .0 ∙ omega arith, omega (arith, t, p .1))
 
 -- ---- the content from block j on
@@ -131,13 +129,13 @@ module _ (n m s : ℕ) (marks store scratch : List ℕ) (w : Restored n m s mark
   at-row = rw row-is (rank-place n marks j (omega (arith, w .marks-long)) h lost)
 
   pub row-in : row * s + s ≤ length scratch
-  row-in = omega (arith, w .room, block-inside s (length (missingData n marks)) row (at-row .1))
+  row-in = omega (arith, w .room, blockLaws .block-inside s (length (missingData n marks)) row (at-row .1))
 
   pub row-block : block s scratch row ≡ decode n m s marks store j
   row-block = w .found row (at-row .1) ∙ ap (λ (i : ℕ). decode n m s marks store i) (at-row .0)
 
 pub block-small : (size n s : ℕ) → Cut size n s → (j : ℕ) → j < n → j * s + s ≤ 2 ^ 32
-block-small size n s w j h = omega (arith, w .small, block-inside s n j h)
+block-small size n s w j h = omega (arith, w .small, blockLaws .block-inside s n j h)
 
 pub before-end : (size n s : ℕ) → Cut size n s → (j : ℕ) → j < n → j * s ≤ size
 before-end size n s w j h = omega (arith, mul-le-mul-right {m = j} {n = n - 1} s (omega arith), w .least)
@@ -163,13 +161,13 @@ module _ (size n m s : ℕ) (marks store scratch : List ℕ) (w : Cut size n s �
     where
       go : Least count s (size - j * s) → (length (take count (decode n m s marks store j)) ≡ s) ⊎ (rest size n m s marks store (j + 1) ≡ [])
       go (inl e) = inl (length-piece ∙ e .0)
-      go (inr e) = ⊎-elim (λ f. inl (length-piece ∙ omega (arith, e .0, e .1, f))) (λ f. inr (rest-past size n m s marks store (j + 1) (omega (arith, e .0, f)))) (below-or s (count + 1))
+      go (inr e) = ⊎-elim (λ f. inl (length-piece ∙ omega (arith, e .0, e .1, f))) (λ f. inr (rest-past size n m s marks store (j + 1) (omega (arith, e .0, f)))) (testLaws .below-or s (count + 1))
 
   pub cut-most : length (take count (decode n m s marks store j)) ≤ s
   cut-most = omega (arith, length-take-most count (decode n m s marks store j), count-most)
 
   pub block-in-store : j * s + s ≤ length store
-  block-in-store = omega (arith, w .1 .store-long, block-inside s n j h)
+  block-in-store = omega (arith, w .1 .store-long, blockLaws .block-inside s n j h)
 
   pub in-store : j * s + count ≤ length store
   in-store = omega (arith, block-in-store, count-most)
@@ -181,7 +179,7 @@ module _ (size n m s : ℕ) (marks store scratch : List ℕ) (w : Cut size n s �
   in-out out f = omega (arith, length-piece)
 
   pub held-long : length (part store (j * s) (j * s + count - j * s)) ≡ count
-  held-long = cut-long store (j * s) count in-store
+  held-long = partLaws .cut-long store (j * s) count in-store
 
   pub held-part : getD marks j 0 ≡ 1 → part store (j * s) (j * s + count - j * s) ≡ take count (decode n m s marks store j)
   held-part e = cut-block store j s count count-most ∙ ap (take count) (sym (decode-held n m s marks store j e))
@@ -191,7 +189,7 @@ module _ (size n m s : ℕ) (marks store scratch : List ℕ) (w : Cut size n s �
     in-scratch = omega (arith, row-in n m s marks store scratch (w .1) j h lost row row-is, count-most)
 
     pub lost-long : length (part scratch (row * s) (row * s + count - row * s)) ≡ count
-    lost-long = cut-long scratch (row * s) count in-scratch
+    lost-long = partLaws .cut-long scratch (row * s) count in-scratch
 
     pub lost-part : part scratch (row * s) (row * s + count - row * s) ≡ take count (decode n m s marks store j)
     lost-part =
@@ -200,7 +198,7 @@ module _ (size n m s : ℕ) (marks store scratch : List ℕ) (w : Cut size n s �
 
 -- and so few bytes may be fed
 pub few-enough : (xs : List ℕ) (at k fed most : ℕ) → fed + k ≤ most → fed + length (part xs at k) ≤ most
-few-enough xs at k fed most h = omega (arith, length-cut xs at k)
+few-enough xs at k fed most h = omega (arith, partLaws .length-cut xs at k)
 
 -- ---- hashing: what is fed and what is still to be fed make up the content
 
@@ -227,8 +225,8 @@ feeding-next size n m s marks store state row j p l h e f row′ r b = record {
   to = omega arith;
   row-is = r;
   low = b;
-  few = omega (arith, f .few, fed-bytes p .count state);
-  all = sym (with-both state p (rest size n m s marks store (j + 1))) ∙ ap (withBytes state) (sym e) ∙ f .all;
+  few = omega (arith, f .few, feedLaws .fed-bytes p .count state);
+  all = sym (feedLaws .with-both state p (rest size n m s marks store (j + 1))) ∙ ap (withBytes state) (sym e) ∙ f .all;
 }
 
 pub feeding-end : (size n m s : ℕ) (marks store : List ℕ) (state : Running) (row j : ℕ) → n ≤ j → size ≤ 2 ^ 32 → Feeding size n m s marks store state row j
@@ -238,7 +236,7 @@ feeding-end size n m s marks store state row j h small f =
     let z : state ≡ withBytes fresh (take size (decoded n m s marks store))
     = ap (withBytes state) (sym (rest-none size n m s marks store j h)) ∙ f .all ∙ ap (withBytes fresh) (rest-all size n m s marks store) in
     ap (λ (r : Running). finished r .hash) z
-    ∙ ap (λ (r : Finished). r .hash) (fed-bytes (take size (decoded n m s marks store)) .ends (omega (arith, length-take-most size (decoded n m s marks store))))
+    ∙ ap (λ (r : Finished). r .hash) (feedLaws .fed-bytes (take size (decoded n m s marks store)) .ends (omega (arith, length-take-most size (decoded n m s marks store))))
 
 -- ---- copying: what is still to be copied, put into the output, gives the promised one
 
@@ -262,7 +260,7 @@ copying-put size n m s marks store out₀ out row j p l h k e f row′ r b = rec
   to = omega arith;
   row-is = r;
   low = b;
-  long = length-put out (j * s) p l ∙ f .long;
+  long = putLaws .length-put out (j * s) p l ∙ f .long;
   all = ⊎-elim whole last k ∙ ap (put out (j * s)) (sym e) ∙ f .all;
 }
   where
@@ -270,11 +268,11 @@ copying-put size n m s marks store out₀ out row j p l h k e f row′ r b = rec
     R = rest size n m s marks store (j + 1)
 
     whole : length p ≡ s → put (put out (j * s) p) ((j + 1) * s) R ≡ put out (j * s) (p ++ R)
-    whole q = let w : (j + 1) * s ≡ j * s + length p = omega arith in ap (λ (i : ℕ). put (put out (j * s) p) i R) w ∙ put-next out (j * s) p R (omega (arith, l))
+    whole q = let w : (j + 1) * s ≡ j * s + length p = omega arith in ap (λ (i : ℕ). put (put out (j * s) p) i R) w ∙ putLaws .put-next out (j * s) p R (omega (arith, l))
 
     last : R ≡ [] → put (put out (j * s) p) ((j + 1) * s) R ≡ put out (j * s) (p ++ R)
     last q =
-        ap (put (put out (j * s) p) ((j + 1) * s)) q ∙ put-none (put out (j * s) p) ((j + 1) * s)
+        ap (put (put out (j * s) p) ((j + 1) * s)) q ∙ putLaws .put-none (put out (j * s) p) ((j + 1) * s)
         ∙ ap (put out (j * s)) (sym (append-nil p)) ∙ ap (λ (x : List ℕ). put out (j * s) (p ++ x)) (sym q)
 
 -- a turn: src is copied over its place, and is the part of block j that belongs to the content
@@ -285,7 +283,7 @@ pub copying-next : (size n m s : ℕ) (marks store scratch : List ℕ) (w : Cut 
     → ys ≡ take (length src) src ++ drop (length src) (part out (j * s) (j * s + count - j * s))
     → (row′ : ℕ) → row′ ≡ rank (j + 1) marks → row′ ≤ j + 1 → Copying size n m s marks store out₀ out′ row′ (j + 1)
 copying-next size n m s marks store scratch w j h count least out₀ out row fits f src ls es ys out′ eo ey row′ r b =
-    let e : out′ ≡ put out (j * s) (take count (decode n m s marks store j)) = eo ∙ copied-in out src ys (j * s) count fits ls ey ∙ ap (put out (j * s)) es in
+    let e : out′ ≡ put out (j * s) (take count (decode n m s marks store j)) = eo ∙ putLaws .copied-in out src ys (j * s) count fits ls ey ∙ ap (put out (j * s)) es in
     rw e
     (copying-put size n m s marks store out₀ out row j (take count (decode n m s marks store j))
     (in-out size n m s marks store scratch w j h count least out fits) h (next-place size n m s marks store scratch w j h count least) (next-from size n m s marks store scratch w j h count least) f row′ r b)
@@ -293,4 +291,4 @@ copying-next size n m s marks store scratch w j h count least out₀ out row fit
 pub copying-end : (size n m s : ℕ) (marks store out₀ out : List ℕ) (row j : ℕ) → n ≤ j → Copying size n m s marks store out₀ out row j
     → out ≡ put out₀ 0 (take size (decoded n m s marks store))
 copying-end size n m s marks store out₀ out row j h f =
-    sym (put-none out (j * s)) ∙ ap (put out (j * s)) (sym (rest-none size n m s marks store j h)) ∙ f .all ∙ ap (put out₀ 0) (rest-all size n m s marks store)
+    sym (putLaws .put-none out (j * s)) ∙ ap (put out (j * s)) (sym (rest-none size n m s marks store j h)) ∙ f .all ∙ ap (put out₀ 0) (rest-all size n m s marks store)

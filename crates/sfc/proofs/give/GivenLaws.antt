@@ -10,7 +10,7 @@ use lib.Dec.{ltb}
 use lib.ListN.{length, getD, take}
 use lib.Seq.{take-at}
 use Rattle.little.specs.Parts.{put}
-use Rattle.little.proofs.TestLaws.{or-false}
+use Rattle.little.proofs.Laws.{testLaws, sameLaws}
 use Rattle.blake3.specs.Tree.{hash}
 use Rattle.cauchy.specs.Code.{Held}
 use Rattle.cauchy.specs.Decode.{decoded}
@@ -29,13 +29,12 @@ use Rattle.sfc.specs.declared.answer.reason.Reason.{Reason}
 use Rattle.sfc.specs.declared.give.hand_out.HandedOut.{HandedOut}
 use Rattle.sfc.specs.declared.give.hand_out.HandedOut.the-variants.{Complete, Refused}
 use Rattle.sfc.proofs.answer.CheckLaws.{all-passed, good-all, let-through}
-use Rattle.little.proofs.RunLaws.{same-eq}
 use Rattle.sfc.proofs.session.HeldLaws.{decode-held, length-content}
 
 -- what is lent with scratch is lent rightly without it
 pub lent-right : (h : Head) (store marks : List ℕ) (l : Lent) → rebuildWrong h store marks l ≡ false → lentWrong (h .size) (h .n) (h .m) (h .s) store marks ≡ false
 unfolding rebuildWrong
-lent-right h store marks l e = or-false _ _ (or-false _ _ e .0) .0
+lent-right h store marks l e = testLaws .or-false _ _ (testLaws .or-false _ _ e .0) .0
 
 -- ---- the block request
 
@@ -103,5 +102,5 @@ complete-has-hash h store marks l p e =
       ltb-false (length (l .output)) (h .size) (t .0 .1 .0),
       ap (λ (b : List ℕ). hash (take (h .size) b)) o
           ∙ ap hash (take-at (contentOf h store marks) _ (h .size) (length-content h store marks w))
-          ∙ same-eq (hash (contentOf h store marks)) (h .hash) (not-false (same (hash (contentOf h store marks)) (h .hash)) (t .0 .1 .1 .1 .0)),
+          ∙ sameLaws .same-eq (hash (contentOf h store marks)) (h .hash) (not-false (same (hash (contentOf h store marks)) (h .hash)) (t .0 .1 .1 .1 .0)),
     )

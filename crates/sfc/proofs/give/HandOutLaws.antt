@@ -20,7 +20,7 @@ use Rattle.sfc.specs.declared.format.header.Head.{Head}
 use Rattle.sfc.specs.declared.answer.reason.Reason.the-variants.{Few, ContentHash, OutputShort, Lent as LentWrong}
 use Rattle.sfc.specs.declared.give.hand_out.HandedOut.{HandedOut}
 use Rattle.sfc.specs.declared.give.hand_out.HandedOut.the-variants.{Complete, Refused}
-use Rattle.sfc.proofs.session.MarkLaws.{RightShape}
+use Rattle.sfc.specs.session.Right.{RightShape}
 use Rattle.sfc.proofs.session.SessionLaws.{right-lent}
 use Rattle.sfc.proofs.give.RebuildLaws.{cut-right}
 

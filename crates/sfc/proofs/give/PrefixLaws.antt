@@ -9,18 +9,19 @@ use native.Mathlib.Nat.{mul-le-mul-right}
 use borrow.Author.Tests.{eq-eqb, ne-eqb, lt-ltb, le-ltb}
 use lib.ListN.{length, getD, take, drop}
 use lib.Seq.{drop-length, length-take-le, take-take, take-all}
-use Rattle.little.proofs.PartLaws.{drop-down}
+use Rattle.little.proofs.Laws.{partLaws}
 use Rattle.sfc.specs.answer.Places.{number, place}
 use Rattle.little.specs.Parts.{put}
 use Rattle.sfc.specs.answer.Numbers.{Answered}
 use Rattle.sfc.specs.session.Marks.{isHeld}
 use Rattle.sfc.specs.session.Lent.{lentWrong}
 use Rattle.sfc.specs.give.Prefix.{leading, prefixBlocks, prefixOf, prefixGiven}
+use Rattle.sfc.specs.session.Right.{RightLent}
 use Rattle.sfc.specs.declared.format.header.Head.{Head}
 use Rattle.sfc.specs.declared.answer.reason.Reason.the-variants.{Lent, OutputShort}
 use Rattle.sfc.specs.declared.give.prefix.PrefixGiven.{PrefixGiven}
 use Rattle.sfc.specs.declared.give.prefix.PrefixGiven.the-variants.{Unverified, Refused}
-use Rattle.sfc.proofs.session.SessionLaws.{RightLent, right-lent}
+use Rattle.sfc.proofs.session.SessionLaws.{right-lent}
 
 pub leading-start : (marks : List ℕ) → 0 ≡ leading (drop (length marks) marks)
 unfolding leading
@@ -28,11 +29,11 @@ leading-start marks = rw drop-length
 
 pub leading-held : (marks : List ℕ) (i n : ℕ) → 0 < i → i ≤ length marks → getD marks (i - 1) 0 ≡ 1 → n ≡ leading (drop i marks) → n + 1 ≡ leading (drop (i - 1) marks)
 unfolding leading
-leading-held marks i n h k e f = rw (drop-down marks i h k, eq-eqb (getD marks (i - 1) 0) 1 e) (omega arith)
+leading-held marks i n h k e f = rw (partLaws .drop-down marks i h k, eq-eqb (getD marks (i - 1) 0) 1 e) (omega arith)
 
 pub leading-gap : (marks : List ℕ) (i : ℕ) → 0 < i → i ≤ length marks → (getD marks (i - 1) 0 ≡ 1 → ⊥) → 0 ≡ leading (drop (i - 1) marks)
 unfolding leading
-leading-gap marks i h k d = rw (drop-down marks i h k, ne-eqb (getD marks (i - 1) 0) 1 d)
+leading-gap marks i h k d = rw (partLaws .drop-down marks i h k, ne-eqb (getD marks (i - 1) 0) 1 d)
 
 leading-most : (marks : List ℕ) → leading marks ≤ length marks
 unfolding leading

@@ -9,18 +9,19 @@ use native.Mathlib.Nat.{mul-le-mul-right}
 use borrow.Author.Tests.{eq-eqb, ne-eqb, le-ltb, ltb-false, eqb-true, not-false, not-true}
 use lib.Dec.{eqb, ltb}
 use lib.ListN.{length, replicate}
-use Rattle.little.proofs.TestLaws.{or-false}
+use Rattle.little.proofs.Laws.{testLaws}
 use Rattle.cauchy.specs.Decode.{holding, missingData}
 use Rattle.cauchy.specs.Calls.{wrongShape, wrongMemory, Rebuilt, decodedScratch, rebuildAllSpec}
 use Rattle.cauchy.specs.declared.Answer.{Answer}
-use Rattle.cauchy.proofs.ForUpperFloors.{decodes, enough}
+use Rattle.cauchy.proofs.Theorems.{theorems}
+use Rattle.cauchy.proofs.Laws.{missingLaws}
 use Rattle.sfc.specs.session.Marks.{heldCount}
 use Rattle.sfc.specs.session.Lent.{lentWrong, Lent, rebuildWrong}
 use Rattle.sfc.specs.inner.Gather.{Rebuildable, Restored, Cut}
+use Rattle.sfc.specs.session.Right.{RightShape, RightLent}
 use Rattle.sfc.specs.declared.format.header.Head.{Head}
 use Rattle.sfc.proofs.format.LimitLaws.{wanted-holds}
-use Rattle.sfc.proofs.session.MarkLaws.{RightShape}
-use Rattle.sfc.proofs.session.SessionLaws.{RightLent, right-lent}
+use Rattle.sfc.proofs.session.SessionLaws.{right-lent}
 
 -- ---- past 71
 
@@ -39,8 +40,8 @@ pub record RightRebuild (h : Head) (store marks : List ℕ) (l : Lent) : Type 0 
 pub right-rebuild : (h : Head) (store marks : List ℕ) (l : Lent) → rebuildWrong h store marks l ≡ false → RightRebuild h store marks l
 unfolding rebuildWrong
 right-rebuild h store marks l e =
-    let a = or-false (lentWrong (h .size) (h .n) (h .m) (h .s) store marks || not (eqb (length (l .scratch)) (h .m * h .s))) (not (eqb (length (l .numbers)) 1024)) e in
-    let b = or-false (lentWrong (h .size) (h .n) (h .m) (h .s) store marks) (not (eqb (length (l .scratch)) (h .m * h .s))) (a .0) in
+    let a = testLaws .or-false (lentWrong (h .size) (h .n) (h .m) (h .s) store marks || not (eqb (length (l .scratch)) (h .m * h .s))) (not (eqb (length (l .numbers)) 1024)) e in
+    let b = testLaws .or-false (lentWrong (h .size) (h .n) (h .m) (h .s) store marks) (not (eqb (length (l .scratch)) (h .m * h .s))) (a .0) in
     let r = right-lent (h .size) (h .n) (h .m) (h .s) store marks (b .0) in
     record {
       right = r;
@@ -127,8 +128,8 @@ restored n m s store marks scratch numbers scratch′ r few e l =
       even = r .even;
       marks-long = r .marks-long;
       store-long = r .store-long;
-      room = omega (arith, l, r .scratch-long, mul-le-mul-right {m = length (missingData n marks)} {n = m} s (omega (arith, enough n m marks (r .marks-long) h .few, enough n m marks (r .marks-long) h .same)));
-      found = λ k hk. rw e (decodes n m s marks store scratch (r .s-least) (r .even) (r .marks-long) (r .scratch-long) h k hk);
+      room = omega (arith, l, r .scratch-long, mul-le-mul-right {m = length (missingData n marks)} {n = m} s (omega (arith, missingLaws .enough n m marks (r .marks-long) h .few, missingLaws .enough n m marks (r .marks-long) h .same)));
+      found = λ k hk. rw e (theorems .decodes n m s marks store scratch (r .s-least) (r .even) (r .marks-long) (r .scratch-long) h k hk);
     }
 
 pub rebuilt-done : (n m s : ℕ) (store marks scratch numbers : List ℕ) (x : Rebuilt) → Rebuildable n m s store marks scratch numbers

@@ -12,11 +12,11 @@ use lib.Dec.{ltb}
 use lib.ListN.{length, getD, take, length-take}
 use lib.Seq.{getD-take, take-add}
 use Rattle.little.specs.Parts.{put, block}
-use Rattle.little.proofs.PartLaws.{below-or}
+use Rattle.little.proofs.Laws.{testLaws}
 use Rattle.cauchy.specs.Decode.{decode, decoded}
-use Rattle.cauchy.proofs.ForUpperFloors.{joined-ext}
+use Rattle.cauchy.proofs.Laws.{codeLaws}
 use Rattle.cauchy.proofs.Theorems.{theorems}
-use Rattle.sfc.specs.answer.Numbers.{Check, checked, passes}
+use Rattle.sfc.specs.answer.Numbers.{Check, checked, passes, Passed}
 use Rattle.sfc.specs.answer.Places.{number, place}
 use Rattle.sfc.specs.session.Marks.{isHeld, heldCount}
 use Rattle.sfc.specs.session.Session.{Session}
@@ -28,7 +28,6 @@ use Rattle.sfc.specs.demand.Demand3.{SameHeld}
 use Rattle.sfc.specs.declared.format.header.Head.{Head}
 use Rattle.sfc.specs.declared.answer.reason.Reason.{Reason}
 use Rattle.sfc.specs.declared.give.block.BlockGiven.the-variants.{Unverified, Refused}
-use Rattle.sfc.proofs.answer.CheckLaws.{Passed}
 use Rattle.sfc.proofs.session.SessionLaws.{right-lent}
 use Rattle.sfc.proofs.session.HeldLaws.{decode-held}
 use Rattle.sfc.proofs.give.GivenLaws.{lent-right}
@@ -57,7 +56,7 @@ module _ (h : Head) (x y : Session) (alike : SameHeld h x y) (l : Lent) where
 
     same-content : h .n ≤ heldCount (x .marks) → contentOf h (y .store) (x .marks) ≡ contentOf h (x .store) (x .marks)
     unfolding contentOf decoded
-    same-content v = ap (take (h .size)) (joined-ext _ _ (h .n) (same-decode v))
+    same-content v = ap (take (h .size)) (codeLaws .joined-ext _ _ (h .n) (same-decode v))
 
   same-given : (j : ℕ) → Passed (blockChecks h (x .store) (x .marks) j l) → blockGiven h (y .store) (x .marks) j ≡ blockGiven h (x .store) (x .marks) j
   same-given j p =
@@ -87,7 +86,7 @@ module _ (h : Head) (x y : Session) (alike : SameHeld h x y) (l : Lent) where
       go true w = rw (same-wrong, w)
       go false w =
           ⊎-elim (λ (v : heldCount (x .marks) < h .n). rw (same-wrong, alike .marks, w, lt-ltb (heldCount (x .marks)) (h .n) v))
-          (λ (v : h .n ≤ heldCount (x .marks)). rw (same-wrong, alike .marks, same-content w v)) (below-or (heldCount (x .marks)) (h .n))
+          (λ (v : h .n ≤ heldCount (x .marks)). rw (same-wrong, alike .marks, same-content w v)) (testLaws .below-or (heldCount (x .marks)) (h .n))
 
 -- ---- the prefix
 

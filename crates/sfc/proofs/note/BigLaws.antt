@@ -9,9 +9,8 @@ use lib.ListN.{length, getD, set, take, drop, length-append, length-drop}
 use lib.Seq.{getD-append-add, getD-drop, take-suc, append-snoc, drop-length, length-take-le, drop-at, drop-drop}
 use Rattle.little.specs.Parts.{part, put}
 use Rattle.little.specs.Fields.{Bytes}
-use Rattle.little.proofs.PartLaws.{lent, length-part, length-put}
+use Rattle.little.proofs.Laws.{putLaws, partLaws}
 use Rattle.sfc.specs.note.Note.{be, bigBytes}
-use Rattle.little.proofs.ListLaws.{drop-set}
 
 -- ---- reading
 
@@ -89,7 +88,7 @@ fill-turn d whole zero rest h k e = absurd (omega arith)
 fill-turn d whole (suc i) rest h k e =
     let f : suc i - 1 ≡ i = omega arith in
     let g : i + 1 ≡ suc i = omega arith in
-    rw (f, drop-set d i (rest % 256) (omega arith), g) (sym (append-snoc (bigBytes i (rest / 256)) (rest % 256) (drop (suc i) d)) ∙ (rw (big-suc i rest) at e))
+    rw (f, putLaws .drop-set d i (rest % 256) (omega arith), g) (sym (append-snoc (bigBytes i (rest / 256)) (rest % 256) (drop (suc i) d)) ∙ (rw (big-suc i rest) at e))
 
 pub fill-start : (d : List ℕ) (v : ℕ) → bigBytes (length d) v ++ drop (length d) d ≡ bigBytes (length d) v
 fill-start d v = rw drop-length (append-nil _)
@@ -104,9 +103,9 @@ pub put-filled : (xs ys : List ℕ) (at width v n : ℕ) → at + width ≤ leng
     → take at xs ++ (ys ++ drop n (drop at xs)) ≡ put xs at (bigBytes width v)
 put-filled xs ys at width v n h en ey =
     let e : n ≡ width = omega arith in
-    let l : length (part xs at n) ≡ width = ap (λ (k : ℕ). length (part xs at k)) e ∙ length-part xs at width h in
+    let l : length (part xs at n) ≡ width = ap (λ (k : ℕ). length (part xs at k)) e ∙ partLaws .length-part xs at width h in
     let y : ys ≡ bigBytes width v = ey ∙ ap (λ (k : ℕ). bigBytes k v) l in
-    lent xs ys at n (ap length y ∙ length-big width v ∙ sym e) ∙ ap (λ (b : List ℕ). put xs at b) y
+    putLaws .lent xs ys at n (ap length y ∙ length-big width v ∙ sym e) ∙ ap (λ (b : List ℕ). put xs at b) y
 
 -- ---- an output, from a place on
 
@@ -122,4 +121,4 @@ drop-big xs xs′ at width v next e h f =
     ap (drop at) f ∙ drop-put xs at (bigBytes width v) (omega arith) ∙ ap (λ (n : ℕ). bigBytes width v ++ drop n xs) g
 
 pub length-put-big : (xs xs′ : List ℕ) (at width v : ℕ) → at + width ≤ length xs → xs′ ≡ put xs at (bigBytes width v) → length xs′ ≡ length xs
-length-put-big xs xs′ at width v h f = ap length f ∙ length-put xs at (bigBytes width v) (omega (arith, length-big width v))
+length-put-big xs xs′ at width v h f = ap length f ∙ putLaws .length-put xs at (bigBytes width v) (omega (arith, length-big width v))

@@ -9,8 +9,7 @@ use borrow.Author.Tests.{eq-eqb, ne-eqb, lt-ltb, le-ltb, le-leb}
 use lib.Dec.{ltb}
 use lib.ListN.{length, getD, take}
 use lib.Seq.{length-take-le, getD-take}
-use Rattle.little.proofs.PartLaws.{below-or}
-use Rattle.little.proofs.TestLaws.{ltb-suc}
+use Rattle.little.proofs.Laws.{testLaws}
 use Rattle.little.specs.Runs.{any, among, risingFrom}
 use Rattle.sfc.specs.session.Marks.{isHeld, heldCount}
 use Rattle.sfc.specs.note.Missing.{unheldFrom, missing}
@@ -40,7 +39,7 @@ listed j zero (k ∷ ks) =
     go false = rw (eq-eqb j j refl)
 listed j (suc d) (k ∷ ks) =
     let e : j + suc d ≡ suc j + d = omega arith in
-    rw e (go (isHeld k) ∙ listed (suc j) d ks ∙ ap (λ (b : Bool). b && not (isHeld (getD ks d 0))) (sym (ltb-suc d (length ks))))
+    rw e (go (isHeld k) ∙ listed (suc j) d ks ∙ ap (λ (b : Bool). b && not (isHeld (getD ks d 0))) (sym (testLaws .ltb-suc d (length ks))))
   where
     go : (b : Bool) → among (suc j + d) (cond b (unheldFrom (suc j) ks) (j ∷ unheldFrom (suc j) ks)) ≡ among (suc j + d) (unheldFrom (suc j) ks)
     go true = refl
@@ -60,9 +59,9 @@ exact n marks h i =
     rw (missing-all n marks p, lt-ltb _ _ p)
     ((rw (z, l) at (listed 0 i (take n marks)))
     ∙ ⊎-elim (λ (q : i < n). ap (λ (x : ℕ). ltb i n && not (isHeld x)) (getD-take n marks i 0 q))
-    (λ (q : n ≤ i). rw (le-ltb i n q)) (below-or i n)))
+    (λ (q : n ≤ i). rw (le-ltb i n q)) (testLaws .below-or i n)))
     (λ (p : n ≤ heldCount marks). rw (missing-none n marks p, le-ltb _ _ p) (none i))
-    (below-or (heldCount marks) n)
+    (testLaws .below-or (heldCount marks) n)
 
 rising-from : (least j : ℕ) (ks : List ℕ) → least ≤ j → risingFrom least (unheldFrom j ks) ≡ true
 unfolding risingFrom unheldFrom
@@ -78,7 +77,7 @@ pub missing-rises : (n : ℕ) (marks : List ℕ) → risingFrom 0 (missing n mar
 missing-rises n marks =
     ⊎-elim (λ (p : heldCount marks < n). rw (missing-all n marks p) (rising-from 0 0 (take n marks) (omega arith)))
     (λ (p : n ≤ heldCount marks). rw (missing-none n marks p) (rising-from 0 0 [] (omega arith)))
-    (below-or (heldCount marks) n)
+    (testLaws .below-or (heldCount marks) n)
 
 pub missing-exact : MissingExact
 missing-exact = record { exact = exact; rising = missing-rises }

@@ -9,8 +9,7 @@ use borrow.Author.Tests.{eq-eqb, ne-eqb, le-leb, lt-leb, lt-ltb, le-ltb}
 use lib.ListN.{length, getD, set, take, drop, length-set}
 use lib.Seq.{length-take-le, drop-length}
 use Rattle.little.specs.Parts.{put}
-use Rattle.little.proofs.PartLaws.{drop-down}
-use Rattle.little.proofs.ListLaws.{drop-set}
+use Rattle.little.proofs.Laws.{partLaws, putLaws}
 use Rattle.cauchy.specs.Decode.{held, count}
 use Rattle.sfc.specs.session.Marks.{isHeld, heldCount}
 use Rattle.sfc.specs.session.Lent.{marksWrong}
@@ -30,13 +29,13 @@ module _ (xs : List ℕ) (i : ℕ) (h : 0 < i) (k : i ≤ length xs) where
   unfolding unheldFrom
   unheld-more e =
       let f : suc (i - 1) ≡ i = omega arith in
-      rw (drop-down xs i h k, ne-eqb _ _ e, f)
+      rw (partLaws .drop-down xs i h k, ne-eqb _ _ e, f)
 
   pub unheld-same : getD xs (i - 1) 0 ≡ 1 → unheldFrom (i - 1) (drop (i - 1) xs) ≡ unheldFrom i (drop i xs)
   unfolding unheldFrom
   unheld-same e =
       let f : suc (i - 1) ≡ i = omega arith in
-      rw (drop-down xs i h k, eq-eqb _ _ e, f)
+      rw (partLaws .drop-down xs i h k, eq-eqb _ _ e, f)
 
 pub unheld-none : (i : ℕ) (xs : List ℕ) → unheldFrom i (drop (length xs) xs) ≡ []
 unfolding unheldFrom
@@ -119,7 +118,7 @@ module _ (marks : List ℕ) (count : ℕ) (out₀ out : List ℕ) (k i : ℕ) (h
           within = omega (arith, l .within);
           long = length-set out (k - 1) (i - 1) ∙ l .long;
           placed = rw u (omega arith);
-          after = drop-set out (k - 1) (i - 1) (omega arith) ∙ (rw (f, u) (ap (λ (r : List ℕ). (i - 1) ∷ r) (l .after)));
+          after = putLaws .drop-set out (k - 1) (i - 1) (omega arith) ∙ (rw (f, u) (ap (λ (r : List ℕ). (i - 1) ∷ r) (l .after)));
         }
 
 pub list-end : (marks : List ℕ) (count : ℕ) (out₀ out : List ℕ) (k i : ℕ) → i ≤ 0 → count ≡ length (unheldFrom 0 marks)

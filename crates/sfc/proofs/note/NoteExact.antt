@@ -11,9 +11,7 @@ use lib.ListN.{length, getD, drop, take-append-drop, drop-of-length-le}
 use lib.Seq.{drop-drop, drop-cons}
 use Rattle.little.specs.Parts.{part}
 use Rattle.little.specs.Fields.{Bytes}
-use Rattle.little.proofs.PartLaws.{length-part}
-use Rattle.little.proofs.TestLaws.{or-false}
-use Rattle.little.proofs.FieldLaws.{bytes-part}
+use Rattle.little.proofs.Laws.{partLaws, testLaws, byteLaws}
 use Rattle.sfc.specs.session.Lent.{marksWrong}
 use Rattle.sfc.specs.note.Missing.{missing}
 use Rattle.sfc.specs.note.Ranges.{Range, ranges, apartFrom, maximal}
@@ -65,9 +63,9 @@ tests b e =
     let p = not (eqb (length b) (23 + 8 * countIn b)) in
     let q = not (eqb (be b 0 4) (19 + 8 * countIn b)) in
     let v = not (eqb (getD b 4 0) 1) in
-    let x = or-false (p || q || v) (not (maximal (rangesIn b))) e in
-    let z = or-false (p || q) v (x .0) in
-    let w = or-false p q (z .0) in
+    let x = testLaws .or-false (p || q || v) (not (maximal (rangesIn b))) e in
+    let z = testLaws .or-false (p || q) v (x .0) in
+    let w = testLaws .or-false p q (z .0) in
     record {
       long = eqb-true _ _ (not-false _ (w .0));
       told = eqb-true _ _ (not-false _ (w .1));
@@ -92,8 +90,8 @@ sayable : (b : List ℕ) → Bytes b → WellFormed b → Sayable (uuidIn b) (ra
 sayable b y w =
     let l = w .long in
     record {
-      uuid-long = length-part b 5 16 (omega arith);
-      uuid-bytes = bytes-part b 5 16 y;
+      uuid-long = partLaws .length-part b 5 16 (omega arith);
+      uuid-bytes = byteLaws .bytes-part b 5 16 y;
       rise = w .rise;
       indices = small-pairs b y 23 (countIn b);
       few = rw (length-pairsFrom b 23 (countIn b)) (be-bound 2 b y 21);

@@ -10,8 +10,7 @@ use borrow.Author.Tests.{lt-ltb, le-ltb, eqb-true, not-false}
 use lib.Dec.{eqb, leb}
 use lib.ListN.{length, getD, set, take, drop, length-append, length-set}
 use Rattle.little.specs.Parts.{part, put}
-use Rattle.little.proofs.PartLaws.{lent, length-part, length-put}
-use Rattle.little.proofs.TestLaws.{or-false}
+use Rattle.little.proofs.Laws.{putLaws, partLaws, testLaws}
 use Rattle.sfc.specs.session.Lent.{marksWrong}
 use Rattle.sfc.specs.answer.Numbers.{Answered}
 use Rattle.sfc.specs.note.Missing.{unheldFrom, missing}
@@ -23,7 +22,6 @@ use Rattle.sfc.specs.declared.answer.reason.Checked.the-variants.{Good}
 use Rattle.sfc.specs.declared.note.resend.NoteRead.{NoteRead}
 use Rattle.sfc.specs.declared.answer.written.Written.{Written}
 use Rattle.sfc.specs.declared.answer.written.Written.the-variants.{Bytes, Refused as Unwritten}
-use Rattle.little.proofs.ListLaws.{copied, drop-set}
 use Rattle.sfc.proofs.note.BigLaws.{length-big, drop-put, drop-big, length-put-big}
 use Rattle.sfc.proofs.note.PairLaws.{bounds-long}
 
@@ -40,14 +38,14 @@ module _ (out a y uuid : List ℕ) (count : ℕ) (h : 23 ≤ length out) (u : le
 
   uuid-put : b ≡ put a 5 uuid
   uuid-put =
-      let p : length (part a 5 16) ≡ 16 = length-part a 5 16 (omega (arith, count-put)) in
-      let e : y ≡ uuid = ey ∙ copied uuid (part a 5 16) (p ∙ sym u) in
-      ap (λ (x : List ℕ). take 5 a ++ (x ++ drop 16 (drop 5 a))) e ∙ lent a uuid 5 16 u
+      let p : length (part a 5 16) ≡ 16 = partLaws .length-part a 5 16 (omega (arith, count-put)) in
+      let e : y ≡ uuid = ey ∙ putLaws .copied uuid (part a 5 16) (p ∙ sym u) in
+      ap (λ (x : List ℕ). take 5 a ++ (x ++ drop 16 (drop 5 a))) e ∙ putLaws .lent a uuid 5 16 u
 
   pub start-long : length (set (take 5 a ++ (y ++ drop (21 - 5) (drop 5 a))) 4 1) ≡ length out
   start-long =
       let l = count-put in
-      length-set b 4 1 ∙ ap length uuid-put ∙ length-put a 5 uuid (omega arith) ∙ l
+      length-set b 4 1 ∙ ap length uuid-put ∙ putLaws .length-put a 5 uuid (omega arith) ∙ l
 
   pub start-made : (after : List ℕ) → after ≡ put (set (take 5 a ++ (y ++ drop (21 - 5) (drop 5 a))) 4 1) 0 (bigBytes 4 (19 + 8 * count))
       → after ≡ bigBytes 4 (19 + 8 * count) ++ (1 ∷ (uuid ++ (bigBytes 2 count ++ drop 23 out)))
@@ -58,7 +56,7 @@ module _ (out a y uuid : List ℕ) (count : ℕ) (h : 23 ≤ length out) (u : le
       let n : 5 + length uuid ≡ 21 = omega arith in
       let da : drop 21 a ≡ bigBytes 2 count ++ drop 23 out = drop-big out a 21 2 count 23 refl h ea in
       let db : drop 5 b ≡ uuid ++ drop 21 a = ap (drop 5) uuid-put ∙ drop-put a 5 uuid (omega arith) ∙ ap (λ (k : ℕ). uuid ++ drop k a) n in
-      let dc : drop 4 (set b 4 1) ≡ 1 ∷ drop 5 b = drop-set b 4 1 (omega arith) in
+      let dc : drop 4 (set b 4 1) ≡ 1 ∷ drop 5 b = putLaws .drop-set b 4 1 (omega arith) in
       drop-big (set b 4 1) after 0 4 (19 + 8 * count) 4 refl (omega arith) e
       ∙ ap (λ (x : List ℕ). bigBytes 4 (19 + 8 * count) ++ x) (dc ∙ ap (λ (x : List ℕ). 1 ∷ x) (db ∙ ap (λ (x : List ℕ). uuid ++ x) da))
 
@@ -149,9 +147,9 @@ judged b count good e f g = sym (rw (← e, f, g))
 pub note-long : (b : List ℕ) → malformed b ≡ false → length b ≡ 23 + 8 * countIn b
 unfolding malformed
 note-long b e =
-    let x = or-false (not (eqb (length b) (23 + 8 * countIn b)) || not (eqb (be b 0 4) (19 + 8 * countIn b)) || not (eqb (getD b 4 0) 1)) (not (maximal (rangesIn b))) e in
-    let y = or-false (not (eqb (length b) (23 + 8 * countIn b)) || not (eqb (be b 0 4) (19 + 8 * countIn b))) (not (eqb (getD b 4 0) 1)) (x .0) in
-    eqb-true _ _ (not-false _ (or-false (not (eqb (length b) (23 + 8 * countIn b))) (not (eqb (be b 0 4) (19 + 8 * countIn b))) (y .0) .0))
+    let x = testLaws .or-false (not (eqb (length b) (23 + 8 * countIn b)) || not (eqb (be b 0 4) (19 + 8 * countIn b)) || not (eqb (getD b 4 0) 1)) (not (maximal (rangesIn b))) e in
+    let y = testLaws .or-false (not (eqb (length b) (23 + 8 * countIn b)) || not (eqb (be b 0 4) (19 + 8 * countIn b))) (not (eqb (getD b 4 0) 1)) (x .0) in
+    eqb-true _ _ (not-false _ (testLaws .or-false (not (eqb (length b) (23 + 8 * countIn b))) (not (eqb (be b 0 4) (19 + 8 * countIn b))) (y .0) .0))
 
 -- ---- copying pairs
 
@@ -178,8 +176,8 @@ copy-turn b count out₀ out k first last h room l ef el =
     let q : 23 + 8 * (k - 1) + 4 ≡ 27 + 8 * (k - 1) = omega arith in
     let r : 2 * (k - 1) + 1 + 1 ≡ 2 * k = omega arith in
     let ls : length (set out (2 * (k - 1) + 1) last) ≡ length out = length-set out (2 * (k - 1) + 1) last in
-    let x = drop-set (set out (2 * (k - 1) + 1) last) (2 * (k - 1)) first (omega arith) in
-    let y = drop-set out (2 * (k - 1) + 1) last (omega arith) in
+    let x = putLaws .drop-set (set out (2 * (k - 1) + 1) last) (2 * (k - 1)) first (omega arith) in
+    let y = putLaws .drop-set out (2 * (k - 1) + 1) last (omega arith) in
     let z : drop (2 * (k - 1) + 1 + 1) out ≡ bounds (pairsFrom b (23 + 8 * k) (count - k)) ++ drop (2 * count) out₀ = rw r (l .after) in
     record {
       within = omega arith;

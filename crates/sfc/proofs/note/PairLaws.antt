@@ -11,7 +11,7 @@ use borrow.Author.Tests.{lt-ltb, le-ltb}
 use lib.ListN.{length, getD, set, take, drop, length-set}
 use lib.Seq.{drop-at, drop-drop}
 use Rattle.little.specs.Parts.{put}
-use Rattle.little.proofs.ListLaws.{drop-set}
+use Rattle.little.proofs.Laws.{putLaws}
 use Rattle.sfc.specs.answer.Numbers.{Answered}
 use Rattle.sfc.specs.session.Lent.{marksWrong}
 use Rattle.sfc.specs.note.Missing.{unheldFrom, missing}
@@ -68,7 +68,7 @@ boundAt k = 2 * k
 
 pub bounds-joined : (out : List ℕ) (k i : ℕ) (joined : Bool) → joined ≡ true → 2 * k < length out
     → IndexPut boundAt (i ∷ []) out (set out (2 * k) i) k k joined
-bounds-joined out k i joined j h = put-joined boundAt (i ∷ []) out (set out (2 * k) i) k joined j (drop-set out (2 * k) i h)
+bounds-joined out k i joined j h = put-joined boundAt (i ∷ []) out (set out (2 * k) i) k joined j (putLaws .drop-set out (2 * k) i h)
 
 pub bounds-own : (out : List ℕ) (k r i : ℕ) (joined : Bool) → joined ≡ false → r + 1 ≡ k → 2 * k ≤ length out
     → IndexPut boundAt (i ∷ []) out (set (set out (2 * r + 1) i) (2 * r) i) k r joined
@@ -76,8 +76,8 @@ bounds-own out k r i joined j f h =
     let l = length-set out (2 * r + 1) i in
     let n : 2 * r + 1 + 1 ≡ 2 * k = omega arith in
     put-own boundAt (i ∷ []) out (set (set out (2 * r + 1) i) (2 * r) i) k joined r j f
-    (drop-set (set out (2 * r + 1) i) (2 * r) i (omega arith)
-    ∙ ap (λ (x : List ℕ). i ∷ x) (drop-set out (2 * r + 1) i (omega arith) ∙ ap (λ (m : ℕ). i ∷ drop m out) n))
+    (putLaws .drop-set (set out (2 * r + 1) i) (2 * r) i (omega arith)
+    ∙ ap (λ (x : List ℕ). i ∷ x) (putLaws .drop-set out (2 * r + 1) i (omega arith) ∙ ap (λ (m : ℕ). i ∷ drop m out) n))
 
 -- ---- ranges laid out, and one index more before them
 

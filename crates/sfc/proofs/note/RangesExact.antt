@@ -8,8 +8,7 @@ use mathlib.Core.List.{List, [], _∷_}
 use native.Mathlib.Omega.{arith}
 use borrow.Author.Tests.{eq-eqb, ne-eqb, eqb-true, eqb-false, le-leb, lt-leb, leb-true}
 use lib.Dec.{eqb, leb}
-use Rattle.little.proofs.PartLaws.{below-or}
-use Rattle.little.proofs.TestLaws.{and-both}
+use Rattle.little.proofs.Laws.{testLaws}
 use Rattle.little.specs.Runs.{any, among, risingFrom}
 use Rattle.sfc.specs.note.Ranges.{Range, putBefore, ranges, apartFrom}
 use Rattle.sfc.specs.note.NoteTheorems.{covered, RangesExact}
@@ -23,8 +22,8 @@ pub record Apart (least : ℕ) (r : Range) (rs : List Range) : Type 0 where
 pub apart : (least : ℕ) (r : Range) (rs : List Range) → apartFrom least (r ∷ rs) ≡ true → Apart least r rs
 unfolding apartFrom
 apart least r rs e =
-    let x = and-both (leb least (r .first) && leb (r .first) (r .last)) (apartFrom (r .last + 2) rs) e in
-    let y = and-both (leb least (r .first)) (leb (r .first) (r .last)) (x .0) in
+    let x = testLaws .and-both (leb least (r .first) && leb (r .first) (r .last)) (apartFrom (r .last + 2) rs) e in
+    let y = testLaws .and-both (leb least (r .first)) (leb (r .first) (r .last)) (x .0) in
     record { from = leb-true _ _ (y .0); some = leb-true _ _ (y .1); rest = x .1 }
 
 apart-back : (least : ℕ) (r : Range) (rs : List Range) → least ≤ r .first → r .first ≤ r .last → apartFrom (r .last + 2) rs ≡ true
@@ -54,7 +53,7 @@ rise-from : (least : ℕ) (is : List ℕ) → risingFrom least is ≡ true → a
 unfolding risingFrom ranges apartFrom
 rise-from least [] e = refl
 rise-from least (i ∷ is) e =
-    let x = and-both (leb least i) (risingFrom (suc i) is) e in
+    let x = testLaws .and-both (leb least i) (risingFrom (suc i) is) e in
     put-apart least i (ranges is) (leb-true _ _ (x .0)) (rise-from (suc i) is (x .1))
 
 -- ---- they have the indices of the list
@@ -66,8 +65,8 @@ one-more i j f l e h =
     (λ (p : j ≤ i). ⊎-elim
     (λ (q : j < i). rw (le-leb j i p, le-leb f i (omega arith), ne-eqb i j (λ s. omega arith)))
     (λ (q : i ≤ j). rw (le-leb j i p, eq-eqb i j (omega arith), le-leb i l (omega arith)))
-    (below-or j i))
-    (below-or i j)
+    (testLaws .below-or j i))
+    (testLaws .below-or i j)
 
 -- a range of one index is that index
 only : (i j : ℕ) → (leb j i && leb i j) ≡ eqb i j
@@ -76,8 +75,8 @@ only i j =
     (λ (p : j ≤ i). ⊎-elim
     (λ (q : j < i). rw (le-leb j i p, lt-leb i j q, ne-eqb i j (λ s. omega arith)))
     (λ (q : i ≤ j). rw (le-leb j i p, eq-eqb i j (omega arith), le-leb i j q))
-    (below-or j i))
-    (below-or i j)
+    (testLaws .below-or j i))
+    (testLaws .below-or i j)
 
 or-assoc : (a b c : Bool) → ((a || b) || c) ≡ (a || (b || c))
 or-assoc true b c = refl
@@ -100,7 +99,7 @@ cover-from : (least : ℕ) (is : List ℕ) → risingFrom least is ≡ true → 
 unfolding risingFrom ranges any
 cover-from least [] e i = refl
 cover-from least (j ∷ is) e i =
-    let x = and-both (leb least j) (risingFrom (suc j) is) e in
+    let x = testLaws .and-both (leb least j) (risingFrom (suc j) is) e in
     put-covered i j (ranges is) (rise-from (suc j) is (x .1)) ∙ ap (λ (b : Bool). eqb i j || b) (cover-from (suc j) is (x .1) i)
 
 -- ---- no others have them
@@ -140,7 +139,7 @@ not-later l m r q rs qs a b h =
     ⊎-elim (λ (p : r .first < q .first).
     absurd (false≢true (sym (before-first (r .first) q qs p ∙ before-all (q .last + 2) (r .first) qs (b .rest) (omega (arith, b .some))) ∙ sym (h (r .first)) ∙ first-in l r rs a)))
     (λ (p : q .first ≤ r .first). p)
-    (below-or (r .first) (q .first))
+    (testLaws .below-or (r .first) (q .first))
 
 not-sooner : (l m : ℕ) (r q : Range) (rs qs : List Range) → Apart l r rs → Apart m q qs → r .first ≡ q .first
     → ((i : ℕ) → covered i (r ∷ rs) ≡ covered i (q ∷ qs)) → q .last ≤ r .last
@@ -149,7 +148,7 @@ not-sooner l m r q rs qs a b e h =
     absurd (false≢true (sym (after-last (suc (r .last)) r rs (omega arith) ∙ before-all (r .last + 2) (suc (r .last)) rs (a .rest) (omega arith))
     ∙ h (suc (r .last)) ∙ inside (suc (r .last)) q qs (omega (arith, a .some)) (omega arith))))
     (λ (p : q .last ≤ r .last). p)
-    (below-or (r .last) (q .last))
+    (testLaws .below-or (r .last) (q .last))
 
 none : (i : ℕ) → false ≡ covered i []
 unfolding any
@@ -174,7 +173,7 @@ same l m (r ∷ rs) (q ∷ qs) e f h =
     (λ i. ⊎-elim
     (λ (p : i < r .last + 2). before-all (r .last + 2) i rs (a .rest) p ∙ sym (before-all (q .last + 2) i qs (b .rest) (omega arith)))
     (λ (p : r .last + 2 ≤ i). sym (after-last i r rs (omega arith)) ∙ h i ∙ after-last i q qs (omega arith))
-    (below-or i (r .last + 2))))
+    (testLaws .below-or i (r .last + 2))))
 
 pub ranges-exact : RangesExact
 ranges-exact = record { rise = rise-from 0; cover = cover-from 0; only-one = same 0 0 }

@@ -9,7 +9,7 @@ use native.Mathlib.Omega.{arith}
 use borrow.Author.Tests.{le-ltb}
 use lib.Dec.{eqb}
 use lib.ListN.{length, take}
-use Rattle.little.proofs.PartLaws.{below-or}
+use Rattle.little.proofs.Laws.{testLaws}
 use Rattle.little.specs.Parts.{put}
 use Rattle.sfc.specs.answer.Numbers.{Answered}
 use Rattle.sfc.specs.session.Marks.{isHeld, heldCount}
@@ -64,7 +64,7 @@ pub missing-ends : (n : ℕ) (marks : List ℕ) → Ends n (ranges (missing n ma
 missing-ends n marks =
     ⊎-elim (λ (p : heldCount marks < n). rw (missing-all n marks p) (ends n 0 (take n marks) (omega (arith, taken n marks))))
     (λ (p : n ≤ heldCount marks). rw (missing-none n marks p) (ends n 0 [] (omega arith)))
-    (below-or (heldCount marks) n)
+    (testLaws .below-or (heldCount marks) n)
 
 few : (n : ℕ) (marks : List ℕ) → 2 * length (ranges (missing n marks)) ≤ n + 1
 few n marks =

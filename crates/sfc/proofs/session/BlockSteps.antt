@@ -12,9 +12,8 @@ use lib.Dec.{eqb, lit<}
 use lib.ListN.{length, getD, set, length-set, length-replicate}
 use lib.Seq.{getD-set-same, getD-set-other, set-set, set-comm}
 use Rattle.little.specs.Parts.{block, putBlock}
-use Rattle.little.proofs.PartLaws.{block-inside, blocks-apart, length-block, length-putBlock, block-put, block-put-other, put-put, put-swap}
+use Rattle.little.proofs.Laws.{blockLaws, putLaws, sameLaws}
 use Rattle.little.specs.Runs.{zeros, same}
-use Rattle.little.proofs.RunLaws.{same-eq, same-differ, same-apart}
 
 -- bytes and mark of a block after a payload came for it
 pub done : ℕ → List ℕ → List ℕ → List ℕ × ℕ
@@ -48,7 +47,7 @@ done-keeps w (suc zero) b p h l l′ = go (same b p) refl
 done-keeps w (suc (suc k)) b p h l l′ = rw (done-barred b p k) (l, h)
 
 same-sym : (a b : List ℕ) → same a b ≡ false → same b a ≡ false
-same-sym a b e = same-differ b a (λ q. same-apart a b e (sym q))
+same-sym a b e = sameLaws .same-differ b a (λ q. sameLaws .same-apart a b e (sym q))
 
 -- two payloads, one after the other
 abbrev pub twice : ℕ → List ℕ → List ℕ → List ℕ → List ℕ × ℕ
@@ -58,7 +57,7 @@ pub done-swap : (w k : ℕ) (b p q : List ℕ) → length b ≡ w → length p �
 done-swap w zero b p q lb lp lq = rw (done-absent b p, done-absent b q) (go (same p q) refl)
   where
     go : (t : Bool) → same p q ≡ t → done 1 p q ≡ done 1 q p
-    go true e = rw (same-eq p q e)
+    go true e = rw (sameLaws .same-eq p q e)
     go false e = rw (done-differs p q e, done-differs q p (same-sym p q e), lp, lq)
 done-swap w (suc zero) b p q lb lp lq = go (same b p) (same b q) refl refl
   where
@@ -90,11 +89,11 @@ module _ (s n : ℕ) where
 
   module _ (k : Kept) (g : Sound k) (i : ℕ) (h : i < n) (p : List ℕ) (l : length p ≡ s) where
     pub keeps : (length (doneAt k i p .0) ≡ s) × (doneAt k i p .1 < 3)
-    keeps = done-keeps s (getD (k .marks) i 0) (block s (k .store) i) p (g .fit i) (length-block s n (k .store) (g .store-long) i h) l
+    keeps = done-keeps s (getD (k .marks) i 0) (block s (k .store) i) p (g .fit i) (blockLaws .length-block s n (k .store) (g .store-long) i h) l
 
     pub laid-sound : Sound (laidAt k i p)
     laid-sound = record {
-      store-long = length-putBlock s n (k .store) (g .store-long) i h (doneAt k i p .0) (keeps .0);
+      store-long = blockLaws .length-putBlock s n (k .store) (g .store-long) i h (doneAt k i p .0) (keeps .0);
       marks-long = length-set (k .marks) i (doneAt k i p .1) ∙ g .marks-long;
       fit = λ j. fits j (ℕ-discrete j i);
     }
@@ -108,7 +107,7 @@ module _ (s n : ℕ) where
     elsewhere j m d q =
         rw (
           getD-set-other (k .marks) i j (doneAt k i p .1) 0 d,
-          block-put-other s n (k .store) (g .store-long) i h (doneAt k i p .0) (keeps .0) j m (λ e. d (sym e)),
+          blockLaws .block-put-other s n (k .store) (g .store-long) i h (doneAt k i p .0) (keeps .0) j m (λ e. d (sym e)),
         )
 
     -- a second payload at the same index
@@ -118,11 +117,11 @@ module _ (s n : ℕ) where
     again q l′ =
         let u = twice (getD (k .marks) i 0) (block s (k .store) i) p q in
         let ku = done-keeps s (doneAt k i p .1) (doneAt k i p .0) q (keeps .1) (keeps .0) l′ in
-        let fit : i * s + length (doneAt k i p .0) ≤ length (k .store) = omega (arith, g .store-long, block-inside s n i h, keeps .0) in
+        let fit : i * s + length (doneAt k i p .0) ≤ length (k .store) = omega (arith, g .store-long, blockLaws .block-inside s n i h, keeps .0) in
         rw (
           getD-set-same (k .marks) i (doneAt k i p .1) 0 (omega (arith, g .marks-long)),
-          block-put s n (k .store) (g .store-long) i h (doneAt k i p .0) (keeps .0),
-          put-put (k .store) (i * s) (doneAt k i p .0) (u .0) fit (ku .0 ∙ sym (keeps .0)),
+          blockLaws .block-put s n (k .store) (g .store-long) i h (doneAt k i p .0) (keeps .0),
+          putLaws .put-put (k .store) (i * s) (doneAt k i p .0) (u .0) fit (ku .0 ∙ sym (keeps .0)),
           set-set (k .marks) i (doneAt k i p .1) (u .1),
         )
 
@@ -133,20 +132,20 @@ module _ (s n : ℕ) where
     near : laidAt (laidAt k i p) i q ≡ laidAt (laidAt k i q) i p
     near =
         again k g i h p lp q lq
-        ∙ ap keep (done-swap s (getD (k .marks) i 0) (block s (k .store) i) p q (length-block s n (k .store) (g .store-long) i h) lp lq)
+        ∙ ap keep (done-swap s (getD (k .marks) i 0) (block s (k .store) i) p q (blockLaws .length-block s n (k .store) (g .store-long) i h) lp lq)
         ∙ sym (again k g i h q lq p lp)
 
     far : (i ≡ j → ⊥) → laidAt (laidAt k i p) j q ≡ laidAt (laidAt k j q) i p
     far d =
         let a = keeps k g i h p lp .0 in
         let b = keeps k g j m q lq .0 in
-        let fa : i * s + length (doneAt k i p .0) ≤ length (k .store) = omega (arith, g .store-long, block-inside s n i h, a) in
-        let fb : j * s + length (doneAt k j q .0) ≤ length (k .store) = omega (arith, g .store-long, block-inside s n j m, b) in
+        let fa : i * s + length (doneAt k i p .0) ≤ length (k .store) = omega (arith, g .store-long, blockLaws .block-inside s n i h, a) in
+        let fb : j * s + length (doneAt k j q .0) ≤ length (k .store) = omega (arith, g .store-long, blockLaws .block-inside s n j m, b) in
         let apart : (i * s + length (doneAt k i p .0) ≤ j * s) ⊎ (j * s + length (doneAt k j q .0) ≤ i * s) =
-        ⊎-elim (λ t. inl (omega arith)) (λ t. inr (omega arith)) (blocks-apart s i j d) in
+        ⊎-elim (λ t. inl (omega arith)) (λ t. inr (omega arith)) (blockLaws .blocks-apart s i j d) in
         rw (elsewhere k g i h p lp j m (λ e. d (sym e)) q, elsewhere k g j m q lq i h d p)
         (λ t. record {
-          store = put-swap (k .store) (i * s) (j * s) (doneAt k i p .0) (doneAt k j q .0) fa fb apart t;
+          store = putLaws .put-swap (k .store) (i * s) (j * s) (doneAt k i p .0) (doneAt k j q .0) fa fb apart t;
           marks = set-comm (k .marks) i j (doneAt k i p .1) (doneAt k j q .1) d t;
         })
 

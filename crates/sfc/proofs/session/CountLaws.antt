@@ -10,7 +10,7 @@ use lib.Dec.{eqb, lit≤}
 use lib.ListN.{length, getD, set, length-set, getD-replicate}
 use lib.Seq.{getD-set-same, getD-set-other}
 use borrow.Author.Tests.{eqb-true, eqb-false, eq-eqb, ne-eqb}
-use Rattle.little.proofs.TestLaws.{or-false}
+use Rattle.little.proofs.Laws.{testLaws}
 use Rattle.little.specs.Runs.{zeros}
 use Rattle.sfc.specs.answer.Numbers.{Check, checked, numberOf, reasonOf}
 use Rattle.sfc.specs.format.Chunk.{indexOf}
@@ -99,7 +99,7 @@ refused-one t n k a b o l = go (eqb n 71 || eqb n 43) refl
         away f true g e = omega (arith, eqb-true n 71 g)
         away f false g e = omega (arith, eqb-true n 43 (rw g at e))
     go false e =
-        let s = or-false (eqb n 71) (eqb n 43) e in
+        let s = testLaws .or-false (eqb n 71) (eqb n 43) e in
         let r : (30 ≤ n) × (n ≤ 42) = o (eqb-false n 71 (s .0)) (eqb-false n 43 (s .1)) in
         (at-k r (ℕ-discrete n k), length-set (t .refused) (n - 30) (tallyOf t n + 1) ∙ l)
       where

@@ -11,7 +11,8 @@ use lib.Seq.{getD-set-same, getD-set-other}
 use Rattle.little.specs.Runs.{any, among}
 use Rattle.cauchy.specs.Decode.{held, count}
 use Rattle.sfc.specs.session.Marks.{isHeld, heldCount}
-use Rattle.sfc.specs.demand.Demand2.{AllBelow, different}
+use Rattle.sfc.specs.demand.Demand2.{different}
+use Rattle.sfc.specs.Laws.{Says}
 
 none-held : (marks : List ℕ) → ((j : ℕ) → j < length marks → isHeld (getD marks j 0) ≡ false) → heldCount marks ≡ 0
 unfolding held count
@@ -28,10 +29,6 @@ one-less (k ∷ marks) (suc i) e = go (isHeld k) (one-less marks i e)
         → count (cond b 1 0 ∷ held marks) ≡ suc (count (cond b 1 0 ∷ held (set marks i 0)))
     go true q = ap suc q
     go false q = q
-
--- the marks say held just at the numbers of the list
-abbrev pub Says : List ℕ → List ℕ → Type 0
-Says is marks = AllBelow (length marks) is × ((j : ℕ) → j < length marks → isHeld (getD marks j 0) ≡ among j is)
 
 module _ (i : ℕ) (is marks : List ℕ) (s : Says (i ∷ is) marks) where
   first-held : isHeld (getD marks i 0) ≡ true

@@ -10,7 +10,7 @@ use lib.Dec.{eqb}
 use lib.ListN.{length, getD, length-replicate}
 use lib.Seq.{getD-set-same, getD-set-other, ext-getD}
 use Rattle.little.specs.Parts.{block}
-use Rattle.little.proofs.PartLaws.{getD-part, length-block, block-put, block-put-other}
+use Rattle.little.proofs.Laws.{partLaws, blockLaws}
 use Rattle.little.specs.Runs.{zeros, same}
 use Rattle.sfc.specs.answer.Numbers.{verdict, passes}
 use Rattle.sfc.specs.format.Chunk.{indexOf, payloadOf, chunkChecks}
@@ -64,13 +64,13 @@ module _ (h : Head) (i : ℕ) (inside : i < h .n + h .m) where
   here : (k : Kept) → Sound (h .s) (h .n + h .m) k → (p : List ℕ) → length p ≡ h .s → there (laidAt (h .s) (h .n + h .m) k i p) ≡ doneAt (h .s) (h .n + h .m) k i p
   here k g p l =
       ap₂ (λ (b : List ℕ) (m : ℕ). (b, m))
-      (block-put (h .s) (h .n + h .m) (k .store) (g .store-long) i inside (doneAt (h .s) (h .n + h .m) k i p .0) (keeps (h .s) (h .n + h .m) k g i inside p l .0))
+      (blockLaws .block-put (h .s) (h .n + h .m) (k .store) (g .store-long) i inside (doneAt (h .s) (h .n + h .m) k i p .0) (keeps (h .s) (h .n + h .m) k g i inside p l .0))
       (getD-set-same (k .marks) i (doneAt (h .s) (h .n + h .m) k i p .1) 0 (omega (arith, g .marks-long)))
 
   away : (k : Kept) → Sound (h .s) (h .n + h .m) k → (j : ℕ) → j < h .n + h .m → (j ≡ i → ⊥) → (p : List ℕ) → length p ≡ h .s → there (laidAt (h .s) (h .n + h .m) k j p) ≡ there k
   away k g j q d p l =
       ap₂ (λ (b : List ℕ) (m : ℕ). (b, m))
-      (block-put-other (h .s) (h .n + h .m) (k .store) (g .store-long) j q (doneAt (h .s) (h .n + h .m) k j p .0) (keeps (h .s) (h .n + h .m) k g j q p l .0) i inside d)
+      (blockLaws .block-put-other (h .s) (h .n + h .m) (k .store) (g .store-long) j q (doneAt (h .s) (h .n + h .m) k j p .0) (keeps (h .s) (h .n + h .m) k g j q p l .0) i inside d)
       (getD-set-other (k .marks) j i (doneAt (h .s) (h .n + h .m) k j p .1) 0 (λ e. d (sym e)))
 
   all-there : (k : Kept) (cs : List (List ℕ)) → keptWrong h k ≡ false → there (keepAll h k cs) ≡ doneAll (there k) (payloadsFor h i cs)
@@ -109,8 +109,8 @@ module _ (h : Head) (i : ℕ) (inside : i < h .n + h .m) where
 blank-block : (s n i : ℕ) → i < n → block s (zeros (n * s)) i ≡ zeros s
 blank-block s n i h =
     let l : length (zeros (n * s)) ≡ n * s = length-replicate {A = ℕ} (n * s) 0 in
-    ext-getD 0 _ _ (length-block s n (zeros (n * s)) l i h ∙ sym (length-replicate {A = ℕ} s 0))
-    (λ k u. getD-part (zeros (n * s)) (i * s) s k (omega (arith, length-block s n (zeros (n * s)) l i h)) ∙ zero-at (n * s) (i * s + k) ∙ sym (zero-at s k))
+    ext-getD 0 _ _ (blockLaws .length-block s n (zeros (n * s)) l i h ∙ sym (length-replicate {A = ℕ} s 0))
+    (λ k u. partLaws .getD-part (zeros (n * s)) (i * s) s k (omega (arith, blockLaws .length-block s n (zeros (n * s)) l i h)) ∙ zero-at (n * s) (i * s + k) ∙ sym (zero-at s k))
 
 pub end-state : EndState
 end-state h cs i e s inside =

@@ -11,11 +11,11 @@ use lib.ListN.{length, getD}
 use lib.Seq.{length-take-le, take-at}
 use Rattle.little.specs.Fields.{Bytes}
 use Rattle.little.specs.Parts.{part, block}
-use Rattle.little.proofs.PartLaws.{length-block, part-append-right}
+use Rattle.little.proofs.Laws.{blockLaws, partLaws}
 use Rattle.cauchy.specs.Code.{joined, wordBytes, Held}
 use Rattle.cauchy.specs.Decode.{held, count, holding, rank, foundWords, decode, decoded}
 use Rattle.cauchy.specs.Theorems.{Shape}
-use Rattle.cauchy.proofs.ForUpperFloors.{length-wordBytes}
+use Rattle.cauchy.proofs.Laws.{codeLaws}
 use Rattle.sfc.specs.session.Marks.{isHeld, heldCount}
 use Rattle.sfc.specs.session.Lent.{lentWrong}
 use Rattle.sfc.specs.give.HandOut.{contentOf}
@@ -47,8 +47,8 @@ unfolding decode
 length-decode n m s marks store j even long hj = go (eqb (getD marks j 0) 1)
   where
     go : (b : Bool) → length (cond b (block s store j) (wordBytes (λ w. getD (foundWords n m s marks store w) (rank j marks) 0) 0 (s / 2))) ≡ s
-    go true = length-block s (n + m) store long j (omega arith)
-    go false = length-wordBytes (λ w. getD (foundWords n m s marks store w) (rank j marks) 0) 0 (s / 2) ∙ omega arith
+    go true = blockLaws .length-block s (n + m) store long j (omega arith)
+    go false = codeLaws .length-wordBytes (λ w. getD (foundWords n m s marks store w) (rank j marks) 0) 0 (s / 2) ∙ omega arith
 
 pub length-decoded : (n m s : ℕ) (marks store : List ℕ) → s % 2 ≡ 0 → length store ≡ (n + m) * s → length (decoded n m s marks store) ≡ n * s
 unfolding decoded
@@ -67,7 +67,7 @@ block-joined s f c (suc k) zero long q =
 block-joined s f c (suc k) (suc j) long q =
     let e : suc j * s ≡ length (f c) + j * s = omega (arith, long c (omega arith) (omega arith)) in
     let n : suc c + j ≡ c + suc j = omega arith in
-    ap (λ (at : ℕ). part (f c ++ joined f (suc c) k) at s) e ∙ part-append-right (f c) (joined f (suc c) k) (j * s) s
+    ap (λ (at : ℕ). part (f c ++ joined f (suc c) k) at s) e ∙ partLaws .part-append-right (f c) (joined f (suc c) k) (j * s) s
     ∙ block-joined s f (suc c) k j (λ i a b. long i (omega arith) (omega arith)) (omega arith) ∙ ap f n
 
 pub block-decoded : (n m s : ℕ) (marks store : List ℕ) (j : ℕ) → s % 2 ≡ 0 → length store ≡ (n + m) * s → j < n

@@ -11,8 +11,7 @@ use lib.Dec.{eqb}
 use lib.ListN.{length, getD, set, length-append}
 use lib.Seq.{set-getD, getD-set-other, set-comm}
 use Rattle.little.specs.Parts.{putBlock}
-use Rattle.little.proofs.PartLaws.{length-part, put-same}
-use Rattle.little.proofs.TestLaws.{or-false}
+use Rattle.little.proofs.Laws.{partLaws, putLaws, testLaws}
 use Rattle.little.specs.Runs.{zeros, same}
 use Rattle.sfc.specs.answer.Numbers.{verdict, numberOf}
 use Rattle.sfc.specs.session.Lent.{shapeWrong, marksWrong, lentWrong}
@@ -76,9 +75,9 @@ module _ (h : Head) where
   pub right-again : (k l : Kept) → keptWrong k ≡ false → Sound (h .s) (h .n + h .m) l → keptWrong l ≡ false
   unfolding lentWrong marksWrong
   right-again k l e g =
-      let a = or-false (marksWrong (h .size) (h .n) (h .m) (h .s) (k .marks)) (not (eqb (length (k .store)) ((h .n + h .m) * h .s))) e in
-      let b = or-false _ (not (marksKnown (k .marks))) (a .0) in
-      let c = or-false (shapeWrong (h .size) (h .n) (h .m) (h .s)) (not (eqb (length (k .marks)) (h .n + h .m))) (b .0) in
+      let a = testLaws .or-false (marksWrong (h .size) (h .n) (h .m) (h .s) (k .marks)) (not (eqb (length (k .store)) ((h .n + h .m) * h .s))) e in
+      let b = testLaws .or-false _ (not (marksKnown (k .marks))) (a .0) in
+      let c = testLaws .or-false (shapeWrong (h .size) (h .n) (h .m) (h .s)) (not (eqb (length (k .marks)) (h .n + h .m))) (b .0) in
       rw (c .0, eq-eqb (length (l .store)) ((h .n + h .m) * h .s) (g .store-long), eq-eqb (length (l .marks)) (h .n + h .m) (g .marks-long), fit-all (l .marks) (g .fit))
 
   -- ---- one offer, on store and marks alone
@@ -98,7 +97,7 @@ module _ (h : Head) where
   pub brings : (x : Session) (c : List ℕ) → Welcome h x c → Brings c
   brings x c w =
       let f = facts h x c w in
-      record { inside = f .inside; long = length-part c 48 (payloadLength c) (omega (arith, f .there)) ∙ f .long }
+      record { inside = f .inside; long = partLaws .length-part c 48 (payloadLength c) (omega (arith, f .there)) ∙ f .long }
 
   -- past 71, 43 and 30 to 40
   welcome-kept : (x : Session) (c : List ℕ) → Welcome h x c → keptOf (after h x c) ≡ laidAt (h .s) (h .n + h .m) (keptOf x) (indexOf c) (payloadOf c)
@@ -108,7 +107,7 @@ module _ (h : Head) where
       f = facts h x c w
 
       same-store : putBlock (h .s) (x .store) (indexOf c) (blockOf h x (indexOf c)) ≡ x .store
-      same-store = put-same (x .store) (indexOf c * h .s) (h .s) (f .block-in)
+      same-store = putLaws .put-same (x .store) (indexOf c * h .s) (h .s) (f .block-in)
 
       same-marks : (k : ℕ) → mark x (indexOf c) ≡ k → set (x .marks) (indexOf c) k ≡ x .marks
       same-marks k e = ap (set (x .marks) (indexOf c)) (sym e) ∙ set-getD (x .marks) (indexOf c) 0
@@ -132,7 +131,7 @@ module _ (h : Head) where
               unchanged 1 (Repeat (number 0) (place 0)) e (done-copy (blockOf h x (indexOf c)) (payloadOf c) t)
               (ap keptOf (after-by h x c (Repeat (number (indexOf c)) (place (indexOf c * h .s))) (verdict-repeat h x c w e t)) ∙ repeat-kept h x c _ _)
           at-one false t =
-              let l : length (blockOf h x (indexOf c)) ≡ h .s = length-part (x .store) (indexOf c * h .s) (h .s) (f .block-in) in
+              let l : length (blockOf h x (indexOf c)) ≡ h .s = partLaws .length-part (x .store) (indexOf c * h .s) (h .s) (f .block-in) in
               ap keptOf (after-by h x c (Refused Conflict) (verdict-conflict h x c w e t)) ∙ conflict-kept h x c
               ∙ ap (λ (n : ℕ). record { store = putBlock (h .s) (x .store) (indexOf c) (zeros n); marks = set (x .marks) (indexOf c) 2 }) (sym l)
               ∙ sym (laid 1 (zeros (length (blockOf h x (indexOf c))), 2) e (done-differs (blockOf h x (indexOf c)) (payloadOf c) t))

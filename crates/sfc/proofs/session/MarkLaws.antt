@@ -9,40 +9,28 @@ use borrow.Author.Tests.{eq-eqb, ne-eqb, eqb-true, ltb-true, ltb-false, lt-ltb, 
 use lib.Dec.{eqb, ltb}
 use lib.ListN.{length, getD, drop}
 use lib.Seq.{drop-length}
-use Rattle.little.proofs.PartLaws.{drop-down}
-use Rattle.little.proofs.TestLaws.{or-false, and-both}
+use Rattle.little.proofs.Laws.{partLaws, testLaws}
 use Rattle.sfc.specs.format.Limits.{unlawful, aboveHouse, wantedBlocks}
 use Rattle.sfc.specs.session.Lent.{shapeWrong, marksWrong}
 use Rattle.sfc.specs.session.Marks.{barredCount, marksKnown}
+use Rattle.sfc.specs.session.Right.{RightShape, RightMarks}
 
 -- ---- what 71 lets through
-
-pub record RightShape (size n m s : ℕ) : Type 0 where
-  pub n-least : 1 ≤ n
-  pub n-most : n ≤ 1024
-  pub m-most : m ≤ 32
-  pub s-least : 2 ≤ s
-  pub s-most : s ≤ 4096
-  pub s-even : s % 2 ≡ 0
-  pub size-most : size ≤ 1099511627776
-  pub wanted : n ≡ wantedBlocks size s
-  -- and so a store is small
-  pub small : (n + m) * s ≤ 4325376
 
 pub right-shape : (size n m s : ℕ) → shapeWrong size n m s ≡ false → RightShape size n m s
 unfolding shapeWrong unlawful aboveHouse
 right-shape size n m s e =
-    let o = or-false (unlawful size n m s) (aboveHouse n m s) e in
-    let i = or-false _ (not (eqb n (wantedBlocks size s))) (o .0) in
-    let h = or-false _ (ltb 1099511627776 size) (i .0) in
-    let g = or-false _ (ltb 65535 (n + m)) (h .0) in
-    let f = or-false _ (ltb 65534 m) (g .0) in
-    let d = or-false _ (ltb 65534 n) (f .0) in
-    let c = or-false _ (ltb n 1) (d .0) in
-    let b = or-false _ (not (eqb (s % 2) 0)) (c .0) in
-    let a = or-false (ltb s 2) (ltb 268435456 s) (b .0) in
-    let v = or-false (ltb 1024 n || ltb 32 m) (ltb 4096 s) (o .1) in
-    let u = or-false (ltb 1024 n) (ltb 32 m) (v .0) in
+    let o = testLaws .or-false (unlawful size n m s) (aboveHouse n m s) e in
+    let i = testLaws .or-false _ (not (eqb n (wantedBlocks size s))) (o .0) in
+    let h = testLaws .or-false _ (ltb 1099511627776 size) (i .0) in
+    let g = testLaws .or-false _ (ltb 65535 (n + m)) (h .0) in
+    let f = testLaws .or-false _ (ltb 65534 m) (g .0) in
+    let d = testLaws .or-false _ (ltb 65534 n) (f .0) in
+    let c = testLaws .or-false _ (ltb n 1) (d .0) in
+    let b = testLaws .or-false _ (not (eqb (s % 2) 0)) (c .0) in
+    let a = testLaws .or-false (ltb s 2) (ltb 268435456 s) (b .0) in
+    let v = testLaws .or-false (ltb 1024 n || ltb 32 m) (ltb 4096 s) (o .1) in
+    let u = testLaws .or-false (ltb 1024 n) (ltb 32 m) (v .0) in
     let n-most : n ≤ 1024 = ltb-false 1024 n (u .0) in
     let m-most : m ≤ 32 = ltb-false 32 m (u .1) in
     let s-most : s ≤ 4096 = ltb-false 4096 s (v .1) in
@@ -59,16 +47,11 @@ right-shape size n m s e =
       small = omega arith;
     }
 
-pub record RightMarks (size n m s : ℕ) (marks : List ℕ) : Type 0 where
-  pub shape : RightShape size n m s
-  pub marks-long : length marks ≡ n + m
-  pub fit : marksKnown marks ≡ true
-
 pub right-marks : (size n m s : ℕ) (marks : List ℕ) → marksWrong size n m s marks ≡ false → RightMarks size n m s marks
 unfolding marksWrong
 right-marks size n m s marks e =
-    let a = or-false _ (not (marksKnown marks)) e in
-    let b = or-false (shapeWrong size n m s) (not (eqb (length marks) (n + m))) (a .0) in
+    let a = testLaws .or-false _ (not (marksKnown marks)) e in
+    let b = testLaws .or-false (shapeWrong size n m s) (not (eqb (length marks) (n + m))) (a .0) in
     record {
       shape = right-shape size n m s (b .0);
       marks-long = eqb-true (length marks) (n + m) (not-false (eqb (length marks) (n + m)) (b .1));
@@ -79,8 +62,8 @@ right-marks size n m s marks e =
 pub fit-at : (marks : List ℕ) (i : ℕ) → marksKnown marks ≡ true → getD marks i 0 < 3
 unfolding marksKnown
 fit-at [] i e = omega arith
-fit-at (k ∷ marks) zero e = ltb-true k 3 (and-both (ltb k 3) (marksKnown marks) e .0)
-fit-at (k ∷ marks) (suc i) e = fit-at marks i (and-both (ltb k 3) (marksKnown marks) e .1)
+fit-at (k ∷ marks) zero e = ltb-true k 3 (testLaws .and-both (ltb k 3) (marksKnown marks) e .0)
+fit-at (k ∷ marks) (suc i) e = fit-at marks i (testLaws .and-both (ltb k 3) (marksKnown marks) e .1)
 
 pub fit-all : (marks : List ℕ) → ((i : ℕ) → getD marks i 0 < 3) → marksKnown marks ≡ true
 unfolding marksKnown
@@ -94,7 +77,7 @@ fit-start marks = rw drop-length
 pub fit-turn : (marks : List ℕ) (i : ℕ) (fit : Bool) → 0 < i → i ≤ length marks → fit ≡ marksKnown (drop i marks)
     → (ltb (getD marks (i - 1) 0) 3 && fit) ≡ marksKnown (drop (i - 1) marks)
 unfolding marksKnown
-fit-turn marks i fit h k e = rw (drop-down marks i h k, e)
+fit-turn marks i fit h k e = rw (partLaws .drop-down marks i h k, e)
 
 -- ---- how many are barred, for a loop that counts i down
 
@@ -105,8 +88,8 @@ barred-start xs = rw drop-length
 module _ (xs : List ℕ) (i : ℕ) (h : 0 < i) (k : i ≤ length xs) where
   pub barred-more : (n : ℕ) → getD xs (i - 1) 0 ≡ 2 → n ≡ barredCount (drop i xs) → n + 1 ≡ barredCount (drop (i - 1) xs)
   unfolding barredCount
-  barred-more n e f = rw (drop-down xs i h k, eq-eqb _ _ e) (omega arith)
+  barred-more n e f = rw (partLaws .drop-down xs i h k, eq-eqb _ _ e) (omega arith)
 
   pub barred-same : (n : ℕ) → (getD xs (i - 1) 0 ≡ 2 → ⊥) → n ≡ barredCount (drop i xs) → n ≡ barredCount (drop (i - 1) xs)
   unfolding barredCount
-  barred-same n e f = rw (drop-down xs i h k, ne-eqb _ _ e) f
+  barred-same n e f = rw (partLaws .drop-down xs i h k, ne-eqb _ _ e) f

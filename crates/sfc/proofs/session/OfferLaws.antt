@@ -10,10 +10,9 @@ use lib.Dec.{eqb}
 use lib.ListN.{length, set, length-set, length-replicate}
 use lib.Seq.{getD-set-same, getD-set-other}
 use Rattle.little.specs.Parts.{putBlock}
-use Rattle.little.proofs.PartLaws.{length-part, length-putBlock, block-put, block-put-other}
-use Rattle.little.proofs.TestLaws.{and-both}
+use Rattle.little.proofs.Laws.{partLaws, blockLaws, testLaws, sameLaws}
 use Rattle.little.specs.Runs.{zeros, same}
-use Rattle.sfc.specs.answer.Numbers.{Check, checked, numberOf, reasonOf}
+use Rattle.sfc.specs.answer.Numbers.{Check, checked, numberOf, reasonOf, Passed}
 use Rattle.sfc.specs.format.Chunk.{indexOf, payloadLength, payloadOf, chunkChecks}
 use Rattle.sfc.specs.answer.Places.{number, place}
 use Rattle.sfc.specs.session.Tallies.{tallyFull}
@@ -26,8 +25,7 @@ use Rattle.sfc.specs.declared.answer.places.BlockNumber.{BlockNumber}
 use Rattle.sfc.specs.declared.answer.places.BytePlace.{BytePlace}
 use Rattle.sfc.specs.declared.session.offer.Verdict.{Verdict}
 use Rattle.sfc.specs.declared.session.offer.Verdict.the-variants.{Fresh, Repeat, Refused}
-use Rattle.sfc.proofs.answer.CheckLaws.{Passed, all-passed, front-good, let-through}
-use Rattle.little.proofs.RunLaws.{same-eq, same-apart}
+use Rattle.sfc.proofs.answer.CheckLaws.{all-passed, front-good, let-through}
 use Rattle.sfc.proofs.session.SessionLaws.{Facts, facts, after-by, full-refused, offered-session}
 use Rattle.sfc.proofs.session.MarkLaws.{fit-at}
 use Rattle.sfc.proofs.session.BlockSteps.{Kept}
@@ -69,10 +67,10 @@ module _ (h : Head) (x : Session) (c : List ℕ) where
       record {
         inside = f .inside;
         new-mark = ap (λ (y : Session). mark y (indexOf c)) e ∙ getD-set-same (x .marks) (indexOf c) k 0 (omega (arith, f .inside, f .right .marks-long));
-        new-block = ap (λ (y : Session). blockOf h y (indexOf c)) e ∙ block-put (h .s) (h .n + h .m) (x .store) s (indexOf c) (f .inside) b l;
+        new-block = ap (λ (y : Session). blockOf h y (indexOf c)) e ∙ blockLaws .block-put (h .s) (h .n + h .m) (x .store) s (indexOf c) (f .inside) b l;
         other-marks = λ j d. ap (λ (y : Session). mark y j) e ∙ getD-set-other (x .marks) (indexOf c) j k 0 d;
-        other-blocks = λ j q d. ap (λ (y : Session). blockOf h y j) e ∙ block-put-other (h .s) (h .n + h .m) (x .store) s (indexOf c) (f .inside) b l j q (λ z. d (sym z));
-        store-length = ap length es ∙ length-putBlock (h .s) (h .n + h .m) (x .store) s (indexOf c) (f .inside) b l ∙ sym s;
+        other-blocks = λ j q d. ap (λ (y : Session). blockOf h y j) e ∙ blockLaws .block-put-other (h .s) (h .n + h .m) (x .store) s (indexOf c) (f .inside) b l j q (λ z. d (sym z));
+        store-length = ap length es ∙ blockLaws .length-putBlock (h .s) (h .n + h .m) (x .store) s (indexOf c) (f .inside) b l ∙ sym s;
         marks-length = ap length em ∙ length-set (x .marks) (indexOf c) k;
       }
 
@@ -88,7 +86,7 @@ module _ (h : Head) (x : Session) (c : List ℕ) where
   mark-passed p = passed-right (chunkChecks h c) (markChecks h x c) (p .1 .1)
 
   long : Facts h x c → length (payloadOf c) ≡ h .s
-  long f = length-part c 48 (payloadLength c) (omega (arith, f .there)) ∙ f .long
+  long f = partLaws .length-part c 48 (payloadLength c) (omega (arith, f .there)) ∙ f .long
 
   is-fresh : (b : Bool) (i p : ℕ) → cond b (Fresh (number (indexOf c)) (place (indexOf c * h .s))) (Repeat (number (indexOf c)) (place (indexOf c * h .s))) ≡ Fresh (number i) (place p)
       → (b ≡ true) × (i ≡ indexOf c) × (p ≡ indexOf c * h .s)
@@ -141,7 +139,7 @@ module _ (h : Head) (x : Session) (c : List ℕ) where
         q .1,
         q .2 ∙ ap (λ (j : ℕ). j * h .s) (sym (q .1)),
         ap (mark x) (q .1) ∙ m1,
-        ap (blockOf h x) (q .1) ∙ same-eq (blockOf h x (indexOf c)) (payloadOf c) s,
+        ap (blockOf h x) (q .1) ∙ sameLaws .same-eq (blockOf h x (indexOf c)) (payloadOf c) s,
         unchanged (Repeat (number i) (place p)) (after-by h x c (Repeat (number i) (place p)) e),
       )
 
@@ -162,9 +160,9 @@ module _ (h : Head) (x : Session) (c : List ℕ) where
       (o 71 (λ z. omega arith), (o 43 (λ z. omega arith), (o 30 (λ z. omega arith), (o 31 (λ z. omega arith), (o 32 (λ z. omega arith), (o 30 (λ z. omega arith), (o 33 (λ z. omega arith), (o 34 (λ z. omega arith), (o 35 (λ z. omega arith), (o 36 (λ z. omega arith), (o 37 (λ z. omega arith), (o 38 (λ z. omega arith), (o 39 (λ z. omega arith), (o 40 (λ z. omega arith), (o 42 (λ z. omega arith), tt))))))))))))))) e in
       let w : Welcome h x c = record { lent = p .0 .0; room = p .0 .1 .0; whole = front-good (chunkChecks h c) ((eqb (mark x (indexOf c)) 2, 42) ∷ []) (all-passed (chunkChecks h c ++ ((eqb (mark x (indexOf c)) 2, 42) ∷ [])) (p .0 .1 .1)) } in
       let f = facts h x c w in
-      let a = and-both (eqb (mark x (indexOf c)) 1) (not (same (blockOf h x (indexOf c)) (payloadOf c))) (p .1) in (
+      let a = testLaws .and-both (eqb (mark x (indexOf c)) 1) (not (same (blockOf h x (indexOf c)) (payloadOf c))) (p .1) in (
         eqb-true (mark x (indexOf c)) 1 (a .0),
-        (λ q. same-apart (blockOf h x (indexOf c)) (payloadOf c) (not-true (same (blockOf h x (indexOf c)) (payloadOf c)) (a .1)) q),
+        (λ q. sameLaws .same-apart (blockOf h x (indexOf c)) (payloadOf c) (not-true (same (blockOf h x (indexOf c)) (payloadOf c)) (a .1)) q),
         changes f (zeros (h .s)) 2 (Refused r) (length-replicate {A = ℕ} (h .s) 0) (rw (eq-eqb (numberOf r) 41 k) at (after-by h x c (Refused r) e)),
       )
 

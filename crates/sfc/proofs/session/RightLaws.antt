@@ -8,7 +8,7 @@ use borrow.Author.Tests.{eq-eqb}
 use lib.Dec.{eqb}
 use lib.ListN.{getD, length-replicate}
 use Rattle.little.specs.Fields.{Bytes}
-use Rattle.little.proofs.FieldLaws.{bytes-part, bytes-put}
+use Rattle.little.proofs.Laws.{byteLaws}
 use Rattle.little.specs.Runs.{zeros}
 use Rattle.sfc.specs.answer.Numbers.{numberOf}
 use Rattle.sfc.specs.session.Lent.{shapeWrong, marksWrong, lentWrong}
@@ -70,12 +70,12 @@ blank-right h e = record {
 
 settled-bytes : (h : Head) (x : Session) (c : List ℕ) (v : Verdict) → Bytes (x .store) → Bytes (payloadOf c) → Bytes (settled h x c v .store)
 unfolding settled
-settled-bytes h x c (Fresh i p) a b = bytes-put (x .store) (indexOf c * h .s) (payloadOf c) a b
+settled-bytes h x c (Fresh i p) a b = byteLaws .bytes-put (x .store) (indexOf c * h .s) (payloadOf c) a b
 settled-bytes h x c (Repeat i p) a b = a
 settled-bytes h x c (Refused r) a b = go (eqb (numberOf r) 41)
   where
     go : (t : Bool) → Bytes (cond t (withBlock h x (indexOf c) (zeros (h .s)) 2) x .store)
-    go true = bytes-put (x .store) (indexOf c * h .s) (zeros (h .s)) a (bytes-zeros (h .s))
+    go true = byteLaws .bytes-put (x .store) (indexOf c * h .s) (zeros (h .s)) a (bytes-zeros (h .s))
     go false = a
 
 pub after-right : (h : Head) (x : Session) (c : List ℕ) → Bytes (payloadOf c) → Right h x → Right h (after h x c)
@@ -85,7 +85,7 @@ after-right h x c b r = record { lent = one-offer .lent-stays h x c (r .lent); b
 all-right : (h : Head) (x : Session) (cs : List (List ℕ)) → AllBytes cs → Right h x → Right h (afterAll h x cs)
 unfolding afterAll
 all-right h x [] b r = r
-all-right h x (c ∷ cs) b r = all-right h (after h x c) cs (b .1) (after-right h x c (bytes-part c 48 (payloadLength c) (b .0)) r)
+all-right h x (c ∷ cs) b r = all-right h (after h x c) cs (b .1) (after-right h x c (byteLaws .bytes-part c 48 (payloadLength c) (b .0)) r)
 
 pub accepted-right : (b : List ℕ) (h : Head) → readHeader b ≡ acceptedHeader h → (cs : List (List ℕ)) → AllBytes cs → Right h (afterAll h (blank h) cs)
 accepted-right b h e cs a = all-right h (blank h) cs a (blank-right h (accepted-shape b h e))

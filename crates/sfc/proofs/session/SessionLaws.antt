@@ -8,10 +8,9 @@ use borrow.Author.Tests.{eq-eqb, ne-eqb, eqb-true, ltb-false, leb-true, leb-fals
 use lib.Dec.{T, eqb, leb}
 use lib.ListN.{length, set, take, drop, length-replicate}
 use Rattle.little.specs.Parts.{part, put, block, putBlock}
-use Rattle.little.proofs.PartLaws.{lent, length-part, put-same, block-inside}
-use Rattle.little.proofs.TestLaws.{or-false}
+use Rattle.little.proofs.Laws.{putLaws, partLaws, blockLaws, testLaws}
 use Rattle.little.specs.Runs.{zeros, same}
-use Rattle.sfc.specs.answer.Numbers.{Check, checked, verdict, numberOf, reasonOf}
+use Rattle.sfc.specs.answer.Numbers.{NumbersAre, Check, checked, verdict, numberOf, reasonOf}
 use Rattle.sfc.specs.session.Marks.{marksKnown}
 use Rattle.sfc.specs.session.Lent.{marksWrong, lentWrong}
 use Rattle.sfc.specs.format.Chunk.{indexOf, payloadLength, payloadOf, chunkLength, chunkChecks}
@@ -19,6 +18,7 @@ use Rattle.sfc.specs.answer.Places.{number, place}
 use Rattle.sfc.specs.session.Tallies.{tallyFull, countedRefusal, counted}
 use Rattle.sfc.specs.session.Session.{Session, mark, blockOf, sessionWrong, markChecks, welcomed, verdictOf, settled, tallied, after, Offered, offered}
 use Rattle.sfc.specs.inner.Steps.{Stepped, stepped, Welcome}
+use Rattle.sfc.specs.session.Right.{RightLent}
 use Rattle.sfc.specs.declared.format.header.Head.{Head}
 use Rattle.sfc.specs.declared.session.tallies.Tallies.{Tallies}
 use Rattle.sfc.specs.declared.answer.reason.Reason.{Reason}
@@ -29,21 +29,14 @@ use Rattle.sfc.specs.declared.session.offer.Verdict.the-variants.{Fresh,
 use Rattle.sfc.specs.declared.session.offer.Step.{Step}
 use Rattle.sfc.specs.declared.session.offer.Step.the-variants.{Laid, Copy, Differs, Barred as StepBarred}
 use Rattle.sfc.proofs.answer.CheckLaws.{passed, good-then, refused-then}
-use Rattle.sfc.proofs.session.MarkLaws.{RightShape, right-marks, fit-at}
-use Rattle.little.proofs.ListLaws.{copied}
+use Rattle.sfc.proofs.session.MarkLaws.{right-marks, fit-at}
 
 -- ---- what 71 lets through
-
-pub record RightLent (size n m s : ℕ) (store marks : List ℕ) : Type 0 where
-  pub shape : RightShape size n m s
-  pub store-long : length store ≡ (n + m) * s
-  pub marks-long : length marks ≡ n + m
-  pub fit : marksKnown marks ≡ true
 
 pub right-lent : (size n m s : ℕ) (store marks : List ℕ) → lentWrong size n m s store marks ≡ false → RightLent size n m s store marks
 unfolding lentWrong
 right-lent size n m s store marks e =
-    let a = or-false (marksWrong size n m s marks) (not (eqb (length store) ((n + m) * s))) e in
+    let a = testLaws .or-false (marksWrong size n m s marks) (not (eqb (length store) ((n + m) * s))) e in
     let r = right-marks size n m s marks (a .0) in
     record {
       shape = r .shape;
@@ -127,7 +120,7 @@ facts h x c w =
       inside = i;
       long = eqb-true (payloadLength c) (h .s) (not-false (eqb (payloadLength c) (h .s)) (p .1 .1 .1 .1 .1 .1 .1 .1 .1 .1 .1 .0));
       there = ltb-false (length c) (chunkLength c) (p .1 .1 .1 .0);
-      block-in = omega (arith, r .store-long, block-inside (h .s) (h .n + h .m) (indexOf c) i);
+      block-in = omega (arith, r .store-long, blockLaws .block-inside (h .s) (h .n + h .m) (indexOf c) i);
       store-small = omega (arith, r .store-long, r .shape .small);
     }
 
@@ -146,11 +139,7 @@ between k t = go (leb 30 k) (leb k 40) refl refl t
     go false b e f t = absurd t
 
 -- the number of a refusal is one of the list's
-abbrev pub Numbers : (ℕ → Type 0) → List Check → Type 0
-Numbers P [] = Unit {0}
-Numbers P (c ∷ cs) = P (numberOf (reasonOf (c .1))) × Numbers P cs
-
-pub number-in : (P : ℕ → Type 0) (cs : List Check) (r : Reason) → Numbers P cs → verdict cs ≡ Wrong r → P (numberOf r)
+pub number-in : (P : ℕ → Type 0) (cs : List Check) (r : Reason) → NumbersAre P cs → verdict cs ≡ Wrong r → P (numberOf r)
 number-in P [] r o e = absurd (let z : _≡_ {A = ℕ} 0 1 = cc in omega arith)
 number-in P ((true, k) ∷ cs) r o e = let f : reasonOf k ≡ r = cc in subst (λ (q : Reason). P (numberOf q)) f (o .0)
 number-in P ((false, k) ∷ cs) r o e = number-in P cs r (o .1) e
@@ -229,16 +218,16 @@ module _ (h : Head) (x : Session) (c : List ℕ) where
       lent-block = ap (λ (k : ℕ). part (x .store) (indexOf c * h .s) k) en
 
       length-lent : length (part (x .store) (indexOf c * h .s) n) ≡ h .s
-      length-lent = ap length lent-block ∙ length-part (x .store) (indexOf c * h .s) (h .s) (facts h x c w .block-in)
+      length-lent = ap length lent-block ∙ partLaws .length-part (x .store) (indexOf c * h .s) (h .s) (facts h x c w .block-in)
 
       -- the store with b in the block's place
       stored : length b ≡ h .s → take (indexOf c * h .s) (x .store) ++ (b ++ drop n (drop (indexOf c * h .s) (x .store))) ≡ putBlock (h .s) (x .store) (indexOf c) b
-      stored l = lent (x .store) b (indexOf c * h .s) n (l ∙ sym en)
+      stored l = putLaws .lent (x .store) b (indexOf c * h .s) n (l ∙ sym en)
 
       unchanged : b ≡ part (x .store) (indexOf c * h .s) n → take (indexOf c * h .s) (x .store) ++ (b ++ drop n (drop (indexOf c * h .s) (x .store))) ≡ x .store
       unchanged e =
           stored (ap length e ∙ length-lent) ∙ ap (put (x .store) (indexOf c * h .s)) (e ∙ lent-block)
-          ∙ put-same (x .store) (indexOf c * h .s) (h .s) (facts h x c w .block-in)
+          ∙ putLaws .put-same (x .store) (indexOf c * h .s) (h .s) (facts h x c w .block-in)
 
       module _ (t : Tallies) where
         pub whole-laid : made b Laid ≡ stepped (mark x (indexOf c)) (part (x .store) (indexOf c * h .s) n) (part c 48 (48 + h .s - 48))
@@ -250,7 +239,7 @@ module _ (h : Head) (x : Session) (c : List ℕ) where
             let q = told (mark x (indexOf c)) (part (x .store) (indexOf c * h .s) n) (part c 48 (48 + h .s - 48)) b Laid e in
             let f = facts h x c w in
             let eb : b ≡ payloadOf c = q .1 ∙ payload-lent h x c f in
-            let lb : length b ≡ h .s = ap length eb ∙ length-part c 48 (payloadLength c) (omega (arith, f .there)) ∙ f .long in
+            let lb : length b ≡ h .s = ap length eb ∙ partLaws .length-part c 48 (payloadLength c) (omega (arith, f .there)) ∙ f .long in
             rw (stored lb, eb, et) (offered-by (Fresh (number (indexOf c)) (place (indexOf c * h .s))) (verdict-fresh (q .0)))
 
         pub whole-copy : made b Copy ≡ stepped (mark x (indexOf c)) (part (x .store) (indexOf c * h .s) n) (part c 48 (48 + h .s - 48))
@@ -289,7 +278,7 @@ module _ (h : Head) (x : Session) (c : List ℕ) where
 
 -- a payload copied over the whole block
 pub block-laid : (k : ℕ) (b p u : List ℕ) → k ≡ 0 → length b ≡ length p → u ≡ take (length p) p ++ drop (length p) b → made u Laid ≡ stepped k b p
-block-laid k b p u e l q = ap (λ (v : List ℕ). made v Laid) (q ∙ copied p b l) ∙ step-laid k b p e
+block-laid k b p u e l q = ap (λ (v : List ℕ). made v Laid) (q ∙ putLaws .copied p b l) ∙ step-laid k b p e
 
 pub record InStore (h : Head) (x : Session) (c : List ℕ) (i : ℕ) : Type 0 where
   pub end-in : i * h .s + h .s ≤ length (x .store)
@@ -312,5 +301,5 @@ pub lent-lengths : (h : Head) (x : Session) (c : List ℕ) → Welcome h x c →
     → length (part (x .store) (i * h .s) (i * h .s + h .s - i * h .s)) ≡ length (part c 48 (48 + h .s - 48))
 lent-lengths h x c w i e =
     let n = in-store h x c w i e in
-    length-part (x .store) (i * h .s) (i * h .s + h .s - i * h .s) (omega (arith, n .end-in))
-    ∙ omega arith ∙ sym (length-part c 48 (48 + h .s - 48) (omega (arith, n .payload-in)))
+    partLaws .length-part (x .store) (i * h .s) (i * h .s + h .s - i * h .s) (omega (arith, n .end-in))
+    ∙ omega arith ∙ sym (partLaws .length-part c 48 (48 + h .s - 48) (omega (arith, n .payload-in)))

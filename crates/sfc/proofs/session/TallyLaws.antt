@@ -7,13 +7,13 @@ use native.Mathlib.Omega.{arith}
 use borrow.Author.Tests.{leb-false, ne-eqb}
 use lib.ListN.{length, getD, drop, set}
 use lib.Seq.{drop-length}
-use Rattle.little.proofs.PartLaws.{drop-down}
+use Rattle.little.proofs.Laws.{partLaws}
 use Rattle.sfc.specs.session.Tallies.{sum, total, tallyOf, tallyFull, countedRefusal}
 use Rattle.sfc.specs.declared.session.tallies.Tallies.{Tallies}
 
 pub sum-turn : (xs : List ℕ) (i t : ℕ) → 0 < i → i ≤ length xs → t ≡ sum (drop i xs) → getD xs (i - 1) 0 + t ≡ sum (drop (i - 1) xs)
 unfolding sum
-sum-turn xs i t h k e = rw (drop-down xs i h k, e)
+sum-turn xs i t h k e = rw (partLaws .drop-down xs i h k, e)
 
 pub sum-start : (xs : List ℕ) → 0 ≡ sum (drop (length xs) xs)
 unfolding sum

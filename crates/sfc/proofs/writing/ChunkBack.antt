@@ -9,20 +9,20 @@ use lib.Dec.{ltb, lit<}
 use lib.ListN.{length, getD, take, drop, length-append}
 use lib.Seq.{take-at, drop-at}
 use Rattle.little.specs.Fields.{bytesOf}
-use Rattle.little.proofs.FieldLaws.{laws}
+use Rattle.little.proofs.Laws.{littleLaws, partLaws}
 use Rattle.blake3.specs.Tree.{hash}
+use Rattle.blake3.proofs.Laws.{hashLaws}
 use Rattle.sfc.specs.format.Bytes.{standsAt}
 use Rattle.little.specs.Runs.{zeros}
-use Rattle.sfc.specs.answer.Numbers.{verdict}
+use Rattle.sfc.specs.answer.Numbers.{verdict, Passed}
 use Rattle.sfc.specs.format.Chunk.{chunkMagic, endMarker, indexOf, typeOf, payloadLength, payloadOf, chunkLength, typeFor, lengthChecks, sealChecks, headChecks, chunkChecks}
 use Rattle.sfc.specs.writing.Writer.{compression, erasureFor, chunkHeader, sealed, chunkBytes}
 use Rattle.sfc.specs.declared.format.header.Head.{Head}
 use Rattle.sfc.specs.declared.answer.reason.Checked.the-variants.{Good, Refused}
-use Rattle.sfc.proofs.answer.CheckLaws.{Passed, all-passed, good-then}
+use Rattle.sfc.proofs.answer.CheckLaws.{all-passed, good-then}
 use Rattle.sfc.proofs.writing.LayoutLaws.{length-header}
-use Rattle.sfc.proofs.writing.LengthLaws.{length-hash, length-chunk}
+use Rattle.sfc.proofs.writing.LengthLaws.{length-chunk}
 use Rattle.sfc.proofs.writing.RegionBack.{number-at}
-use Rattle.little.proofs.ListLaws.{next, piece, byte-after}
 use Rattle.sfc.proofs.format.PlaceLaws.{stands-there}
 
 nested : (a b c d e f g p h t r : List ℕ)
@@ -80,25 +80,25 @@ module _ (h : Head) (i : ℕ) (p rest : List ℕ) (m : Made h i p) where
   from-0 = nested chunkMagic (h .uuid) (bytesOf 4 i) (bytesOf 4 (typeFor (h .n) i)) (bytesOf 4 (h .s)) (compression ∷ erasureFor (h .m) ∷ []) (zeros 14) p (hash front) endMarker rest
 
   from-4 : drop 4 made ≡ at-4
-  from-4 = next made chunkMagic at-4 0 4 from-0 refl
+  from-4 = partLaws .next made chunkMagic at-4 0 4 from-0 refl
 
   from-20 : drop 20 made ≡ at-20
-  from-20 = next made (h .uuid) at-20 4 16 from-4 (m .uuid-long)
+  from-20 = partLaws .next made (h .uuid) at-20 4 16 from-4 (m .uuid-long)
 
   from-24 : drop 24 made ≡ at-24
-  from-24 = next made (bytesOf 4 i) at-24 20 4 from-20 (laws 4 .long i)
+  from-24 = partLaws .next made (bytesOf 4 i) at-24 20 4 from-20 (littleLaws 4 .long i)
 
   from-28 : drop 28 made ≡ at-28
-  from-28 = next made (bytesOf 4 (typeFor (h .n) i)) at-28 24 4 from-24 (laws 4 .long (typeFor (h .n) i))
+  from-28 = partLaws .next made (bytesOf 4 (typeFor (h .n) i)) at-28 24 4 from-24 (littleLaws 4 .long (typeFor (h .n) i))
 
   from-32 : drop 32 made ≡ at-32
-  from-32 = next made (bytesOf 4 (h .s)) at-32 28 4 from-28 (laws 4 .long (h .s))
+  from-32 = partLaws .next made (bytesOf 4 (h .s)) at-32 28 4 from-28 (littleLaws 4 .long (h .s))
 
   from-34 : drop 34 made ≡ at-34
-  from-34 = next made (compression ∷ erasureFor (h .m) ∷ []) at-34 32 2 from-32 refl
+  from-34 = partLaws .next made (compression ∷ erasureFor (h .m) ∷ []) at-34 32 2 from-32 refl
 
   from-payload : drop 48 made ≡ at-payload
-  from-payload = next made (zeros 14) at-payload 34 14 from-34 refl
+  from-payload = partLaws .next made (zeros 14) at-payload 34 14 from-34 refl
 
   -- ---- its fields
 
@@ -112,7 +112,7 @@ module _ (h : Head) (i : ℕ) (p rest : List ℕ) (m : Made h i p) where
   length-back = number-at made at-32 28 4 (h .s) from-28 (m .s-small)
 
   pub payload-back : payloadOf made ≡ p
-  payload-back = piece made p (hash front ++ (endMarker ++ rest)) 48 (payloadLength made) from-payload (m .payload-long ∙ sym length-back)
+  payload-back = partLaws .piece made p (hash front ++ (endMarker ++ rest)) 48 (payloadLength made) from-payload (m .payload-long ∙ sym length-back)
 
   long : length made ≡ 84 + h .s + length rest
   long =
@@ -139,7 +139,7 @@ module _ (h : Head) (i : ℕ) (p rest : List ℕ) (m : Made h i p) where
   from-end : drop (80 + payloadLength made) made ≡ endMarker ++ rest
   from-end =
       let e : 48 + payloadLength made + 32 ≡ 80 + payloadLength made = omega arith in
-      rw e at (next made (hash front) (endMarker ++ rest) (48 + payloadLength made) 32 from-hash (length-hash front))
+      rw e at (partLaws .next made (hash front) (endMarker ++ rest) (48 + payloadLength made) 32 from-hash (hashLaws .length-hash front))
 
   hash-there : standsAt made (48 + payloadLength made) (hash (take (48 + payloadLength made) made)) ≡ true
   hash-there =
@@ -174,8 +174,8 @@ module _ (h : Head) (i : ℕ) (p rest : List ℕ) (m : Made h i p) where
           ap not (stands-there made 34 (zeros 14) at-payload from-34),
           (
             ap₂ (λ (a b : Bool). not a || not b)
-                (eq-eqb (getD made 32 0) (h .compression) (byte-after made at-32 32 0 compression from-32 refl ∙ sym (m .compression-none)))
-                (eq-eqb (getD made 33 0) (h .erasure) (byte-after made at-32 32 1 (erasureFor (h .m)) from-32 refl ∙ sym (m .erasure))),
+                (eq-eqb (getD made 32 0) (h .compression) (partLaws .byte-after made at-32 32 0 compression from-32 refl ∙ sym (m .compression-none)))
+                (eq-eqb (getD made 33 0) (h .erasure) (partLaws .byte-after made at-32 32 1 (erasureFor (h .m)) from-32 refl ∙ sym (m .erasure))),
             (ap not (eq-eqb (payloadLength made) (h .s) length-back), tt),
           ),
         ),

@@ -9,13 +9,14 @@ use borrow.Author.Tests.{le-ltb, eq-eqb, ne-eqb}
 use lib.ListN.{length, take, drop, length-append, length-drop, take-append-drop}
 use lib.Seq.{length-take-le, take-at}
 use Rattle.little.specs.Parts.{part}
-use Rattle.little.proofs.PartLaws.{part-rest}
+use Rattle.little.proofs.Laws.{partLaws}
 use Rattle.cauchy.specs.Code.{joined}
 use Rattle.cauchy.specs.Calls.{wrongShape}
 use Rattle.sfc.specs.format.Bytes.{padded}
 use Rattle.little.specs.Runs.{zeros}
 use Rattle.sfc.specs.session.Lent.{shapeWrong}
-use Rattle.sfc.proofs.session.MarkLaws.{RightShape, right-shape}
+use Rattle.sfc.specs.session.Right.{RightShape}
+use Rattle.sfc.proofs.session.MarkLaws.{right-shape}
 use Rattle.sfc.proofs.writing.LayoutLaws.{length-padded}
 use Rattle.sfc.proofs.format.LimitLaws.{wanted-holds}
 use Rattle.sfc.proofs.writing.RunOfChunks.{codeChunk}
@@ -51,7 +52,7 @@ module _ (n m s : ℕ) (content : List ℕ) (w : shapeWrong (length content) n m
         arith,
         l,
         ap (λ (j : ℕ). length (part content ((n - 1) * s) j)) e,
-        ap length (part-rest content ((n - 1) * s)),
+        ap length (partLaws .part-rest content ((n - 1) * s)),
         length-drop ((n - 1) * s) content,
         length-take-le s last (omega (arith, h, l .4)),
       )
@@ -61,7 +62,7 @@ module _ (n m s : ℕ) (content : List ℕ) (w : shapeWrong (length content) n m
     rest : y ≡ padded s (drop ((n - 1) * s) content)
     rest =
         let t = length-take-le s last (omega (arith, h, last-place .4)) in
-        ey ∙ ap₂ padded t (ap (λ (j : ℕ). part content ((n - 1) * s) j) eq ∙ part-rest content ((n - 1) * s))
+        ey ∙ ap₂ padded t (ap (λ (j : ℕ). part content ((n - 1) * s) j) eq ∙ partLaws .part-rest content ((n - 1) * s))
 
     last-long : length y ≡ s
     last-long = ap length rest ∙ length-padded s (drop ((n - 1) * s) content) (omega (arith, last-place, length-drop ((n - 1) * s) content))

@@ -9,21 +9,22 @@ use borrow.Author.Tests.{lt-ltb, le-ltb}
 use lib.ListN.{length, take, drop, length-append, length-replicate}
 use Rattle.little.specs.Parts.{part, put}
 use Rattle.little.specs.Fields.{bytesOf, putLe}
-use Rattle.little.proofs.PartLaws.{length-part, lent, part-put}
-use Rattle.little.proofs.FieldLaws.{long}
+use Rattle.little.proofs.Laws.{partLaws, putLaws}
 use Rattle.blake3.specs.Tree.{hash}
+use Rattle.blake3.proofs.Laws.{hashLaws}
 use Rattle.cauchy.specs.Code.{joined}
 use Rattle.sfc.specs.format.Bytes.{padded}
 use Rattle.sfc.specs.session.Lent.{shapeWrong}
 use Rattle.sfc.specs.answer.Numbers.{Answered}
 use Rattle.sfc.specs.writing.Writer.{Input, size, blocks, identityBytes, shapeBytes, indexBytes, body, region, dataOf, payload, chunk, preamble, trailerBytes, trailer, fileOf, inputWrong, writeFile}
+use Rattle.sfc.specs.session.Right.{RightShape}
 use Rattle.sfc.specs.declared.answer.reason.Reason.the-variants.{WriterInput, WriterOutput}
 use Rattle.sfc.specs.declared.answer.written.Written.{Written}
 use Rattle.sfc.specs.declared.answer.written.Written.the-variants.{Bytes, Refused}
-use Rattle.sfc.proofs.session.MarkLaws.{RightShape, right-shape}
+use Rattle.sfc.proofs.session.MarkLaws.{right-shape}
 use Rattle.sfc.proofs.writing.FillLaws.{Front, front-start, front-length, front-end, front-le, front-lent, front-copy, front-is, front-first}
-use Rattle.sfc.proofs.writing.LayoutLaws.{length-indices}
-use Rattle.sfc.proofs.writing.LengthLaws.{length-hash, length-chunk, length-joined, length-trailer, length-payload}
+use Rattle.sfc.proofs.writing.LayoutLaws.{length-field, length-indices}
+use Rattle.sfc.proofs.writing.LengthLaws.{length-chunk, length-joined, length-trailer, length-payload}
 use Rattle.sfc.proofs.writing.RunOfChunks.{codeChunk}
 use Rattle.sfc.proofs.writing.RegionBack.{length-region, length-body}
 use Rattle.sfc.proofs.writing.InputLaws.{RightInput, right-input}
@@ -36,11 +37,11 @@ regroup a b c d e = simp append-assoc
 length-identity : (uuid name digest : List ℕ) (size format : ℕ) → length uuid ≡ 16 → length name ≤ 255 → length digest ≡ 32
     → length (identityBytes uuid size format name digest) ≡ 313
 unfolding identityBytes
-length-identity uuid name digest size format u n d = simp (length-append, long, length-replicate, u, d) (omega arith)
+length-identity uuid name digest size format u n d = simp (length-append, length-field, length-replicate, u, d) (omega arith)
 
 length-shape : (n m s flags p : ℕ) → length (shapeBytes n m s flags p) ≡ 18
 unfolding shapeBytes
-length-shape n m s flags p = simp (length-append, long)
+length-shape n m s flags p = simp (length-append, length-field)
 
 module _ (w : Input) (u : length (w .uuid) ≡ 16) (ok : inputWrong w ≡ false) where
   r : RightInput w
@@ -67,7 +68,7 @@ module _ (w : Input) (u : length (w .uuid) ≡ 16) (ok : inputWrong w ≡ false)
         length-append preamble (region w),
         length-region w,
         length-chunks,
-        length-trailer (hash (region w)) (w .time) (length-hash (region w)),
+        length-trailer (hash (region w)) (w .time) (hashLaws .length-hash (region w)),
       )
 
   -- and in terms of what the caller gave
@@ -91,14 +92,14 @@ module _ (w : Input) (u : length (w .uuid) ≡ 16) (ok : inputWrong w ≡ false)
       region₁ = front-length front₁
 
       pub identity-lent : length (part d₁ 4 313) ≡ 313
-      identity-lent = length-part d₁ 4 313 (omega (arith, region₁, region-long))
+      identity-lent = partLaws .length-part d₁ 4 313 (omega (arith, region₁, region-long))
 
       module _ (digest y₂ d₂ : List ℕ) (ed : digest ≡ hash (w .content)) (ey : y₂ ≡ identityBytes (w .uuid) (size w) (w .format) (w .name) digest)
           (e₂ : d₂ ≡ take 4 d₁ ++ (y₂ ++ drop 313 (drop 4 d₁))) where
         front₂ : Front d (bytesOf 4 h ++ identityBytes (w .uuid) (size w) (w .format) (w .name) (hash (w .content))) 317 d₂
         front₂ =
             let g : y₂ ≡ identityBytes (w .uuid) (size w) (w .format) (w .name) (hash (w .content)) = ey ∙ ap (identityBytes (w .uuid) (size w) (w .format) (w .name)) ed in
-            front-is (front-lent front₁ y₂ 313 (ap length g ∙ length-identity (w .uuid) (w .name) (hash (w .content)) (size w) (w .format) u (r .name-short) (length-hash (w .content)))
+            front-is (front-lent front₁ y₂ 313 (ap length g ∙ length-identity (w .uuid) (w .name) (hash (w .content)) (size w) (w .format) u (r .name-short) (hashLaws .length-hash (w .content)))
             (omega (arith, region-long))) (ap (λ (x : List ℕ). bytesOf 4 h ++ x) g) (sym e₂)
 
         pub region₂ : length d₂ ≡ length d
@@ -132,7 +133,7 @@ module _ (w : Input) (u : length (w .uuid) ≡ 16) (ok : inputWrong w ≡ false)
             region₄ = front-length front₄
 
             pub fields-lent : (j : ℕ) → j ≡ length d₄ - end → length (w .fields) ≤ length (part d₄ end j)
-            fields-lent j ej = omega (arith, length-part d₄ end j (omega (arith, region₄, region-long)), region₄, region-long)
+            fields-lent j ej = omega (arith, partLaws .length-part d₄ end j (omega (arith, region₄, region-long)), region₄, region-long)
 
             pub region-made : (y₅ : List ℕ) (j : ℕ) → j ≡ length d₄ - end → y₅ ≡ take (length (w .fields)) (w .fields) ++ drop (length (w .fields)) (part d₄ end j)
                 → take end d₄ ++ (y₅ ++ drop j (drop end d₄)) ≡ region w
@@ -164,7 +165,7 @@ module _ (w : Input) (u : length (w .uuid) ≡ 16) (ok : inputWrong w ≡ false)
       long₁ = front-length file₁
 
       pub region-lent : (k : ℕ) → k ≡ start - 8 → length (part o₁ 8 k) ≡ length (region w)
-      region-lent k ek = length-part o₁ 8 k (omega (arith, long₁, file-room, region-there)) ∙ omega (arith, region-there)
+      region-lent k ek = partLaws .length-part o₁ 8 k (omega (arith, long₁, file-room, region-there)) ∙ omega (arith, region-there)
 
       module _ (k : ℕ) (ek : k ≡ start - 8) (y₂ o₂ : List ℕ) (ey₂ : y₂ ≡ region w) (e₂ : o₂ ≡ take 8 o₁ ++ (y₂ ++ drop k (drop 8 o₁))) where
         file₂ : Front out (preamble ++ region w) start o₂
@@ -180,12 +181,12 @@ module _ (w : Input) (u : length (w .uuid) ≡ 16) (ok : inputWrong w ≡ false)
         pub region-read : part o₂ 8 k ≡ region w
         region-read =
             let l : k ≡ length y₂ = omega (arith, region-there, ap length ey₂) in
-            let c : o₂ ≡ put o₁ 8 y₂ = e₂ ∙ lent o₁ y₂ 8 k (sym l) in
-            ap₂ (λ (x : List ℕ) (j : ℕ). part x 8 j) c l ∙ part-put o₁ 8 y₂ (omega (arith, long₁, file-room, region-there)) ∙ ey₂
+            let c : o₂ ≡ put o₁ 8 y₂ = e₂ ∙ putLaws .lent o₁ y₂ 8 k (sym l) in
+            ap₂ (λ (x : List ℕ) (j : ℕ). part x 8 j) c l ∙ putLaws .part-put o₁ 8 y₂ (omega (arith, long₁, file-room, region-there)) ∙ ey₂
 
         pub chunks-lent : (n end j : ℕ) → n ≡ blocks w → end ≡ length out - 64 → j ≡ end - start → length (part o₂ start j) ≡ (n + w .m) * (84 + w .s)
         chunks-lent n end j en ee ej =
-            length-part o₂ start j (omega (arith, long₂, file-room)) ∙ omega (arith, file-room, ap (λ (k : ℕ). (k + w .m) * (84 + w .s)) en)
+            partLaws .length-part o₂ start j (omega (arith, long₂, file-room)) ∙ omega (arith, file-room, ap (λ (k : ℕ). (k + w .m) * (84 + w .s)) en)
 
         module _ (n end j : ℕ) (en : n ≡ blocks w) (ee : end ≡ length out - 64) (ej : j ≡ end - start) (y₃ o₃ : List ℕ)
             (ey₃ : y₃ ≡ joined (codeChunk (w .uuid) n (w .m) (w .s) (padded (n * w .s) (w .content))) 0 (n + w .m))
@@ -204,14 +205,14 @@ module _ (w : Input) (u : length (w .uuid) ≡ 16) (ok : inputWrong w ≡ false)
           long₃ = front-length file₃
 
           pub trailer-lent : (i : ℕ) → i ≡ length o₃ - end → length (part o₃ end i) ≡ 64
-          trailer-lent i ei = length-part o₃ end i (omega (arith, long₃, file-room)) ∙ omega (arith, long₃, file-room)
+          trailer-lent i ei = partLaws .length-part o₃ end i (omega (arith, long₃, file-room)) ∙ omega (arith, long₃, file-room)
 
           pub file-made : (digest y₄ : List ℕ) (i : ℕ) → i ≡ length o₃ - end → digest ≡ hash (part o₂ 8 k) → y₄ ≡ trailerBytes digest (w .time)
               → take end o₃ ++ (y₄ ++ drop i (drop end o₃)) ≡ fileOf w
           unfolding fileOf trailer
           file-made digest y₄ i ei ed ey₄ =
               let c : y₄ ≡ trailerBytes (hash (region w)) (w .time) = ey₄ ∙ ap (λ (x : List ℕ). trailerBytes x (w .time)) (ed ∙ ap hash region-read) in
-              let l : length y₄ ≡ i = ap length c ∙ length-trailer (hash (region w)) (w .time) (length-hash (region w)) ∙ omega (arith, long₃, file-room) in
+              let l : length y₄ ≡ i = ap length c ∙ length-trailer (hash (region w)) (w .time) (hashLaws .length-hash (region w)) ∙ omega (arith, long₃, file-room) in
               front-end (front-lent file₃ y₄ i l (omega (arith, long₃, file-room))) (omega (arith, long₃, file-room))
               ∙ ap (λ (x : List ℕ). preamble ++ region w ++ joined (chunk w) 0 (blocks w + w .m) ++ x) c
 

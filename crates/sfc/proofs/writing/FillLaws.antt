@@ -7,9 +7,7 @@ use lib.ListN.{length, take, drop, length-append, drop-of-length-le, take-append
 use lib.Seq.{take-append-seam, take-append-add, drop-append-seam, drop-append-add, drop-drop, take-all, take-at, length-take-le}
 use Rattle.little.specs.Parts.{part, put}
 use Rattle.little.specs.Fields.{bytesOf, putLe}
-use Rattle.little.proofs.PartLaws.{lent, length-put, length-part}
-use Rattle.little.proofs.FieldLaws.{laws, put-fits}
-use Rattle.little.proofs.ListLaws.{copied, put-next}
+use Rattle.little.proofs.Laws.{putLaws, partLaws, byteLaws, littleLaws}
 
 -- `cur` is the list xs with a, of length `at`, at its front
 pub record Front (xs a : List ℕ) (at : ℕ) (cur : List ℕ) : Type 0 where
@@ -22,7 +20,7 @@ front-start xs = record { made = refl; long = refl; room = omega arith }
 
 module _ {xs a cur : List ℕ} {at : ℕ} (f : Front xs a at cur) where
   pub front-length : length cur ≡ length xs
-  front-length = ap length (f .made) ∙ length-put xs 0 a (omega (arith, f .long, f .room))
+  front-length = ap length (f .made) ∙ putLaws .length-put xs 0 a (omega (arith, f .long, f .room))
 
   -- filled to its end
   pub front-end : at ≡ length xs → cur ≡ a
@@ -36,7 +34,7 @@ module _ {xs a cur : List ℕ} {at : ℕ} (f : Front xs a at cur) where
 
     pub front-put : Front xs (a ++ b) (at + n) (put cur at b)
     front-put = record {
-      made = ap₂ (λ (c : List ℕ) (k : ℕ). put c k b) (f .made) start ∙ put-next xs 0 a b (omega arith);
+      made = ap₂ (λ (c : List ℕ) (k : ℕ). put c k b) (f .made) start ∙ putLaws .put-next xs 0 a b (omega arith);
       long = length-append a b ∙ ap₂ _+_ (f .long) l;
       room = h;
     }
@@ -49,19 +47,19 @@ module _ {xs a cur : List ℕ} {at : ℕ} (f : Front xs a at cur) where
   -- a number
   pub front-le : (width v : ℕ) → at + width ≤ length xs → {c : List ℕ} → c ≡ putLe cur at width v → Front xs (a ++ bytesOf width v) (at + width) c
   front-le width v h e =
-      front-is (front-put f (bytesOf width v) width (laws width .long v) h) refl
-      (sym (put-fits cur at width v (omega (arith, front-length f))) ∙ sym e)
+      front-is (front-put f (bytesOf width v) width (littleLaws width .long v) h) refl
+      (sym (byteLaws .put-fits cur at width v (omega (arith, front-length f))) ∙ sym e)
 
   -- a lent part that came back with ys in it
   pub front-lent : (ys : List ℕ) (n : ℕ) → length ys ≡ n → at + n ≤ length xs → Front xs (a ++ ys) (at + n) (take at cur ++ (ys ++ drop n (drop at cur)))
-  front-lent ys n l h = front-is (front-put f ys n l h) refl (sym (lent cur ys at n l))
+  front-lent ys n l h = front-is (front-put f ys n l h) refl (sym (putLaws .lent cur ys at n l))
 
   -- a lent part to which all of src was copied
   pub front-copy : (src ys : List ℕ) (n : ℕ) → length src ≡ n → at + n ≤ length xs → ys ≡ take (length src) src ++ drop (length src) (part cur at n)
       → Front xs (a ++ src) (at + n) (take at cur ++ (ys ++ drop n (drop at cur)))
   front-copy src ys n l h e =
-      let p : length (part cur at n) ≡ length src = length-part cur at n (omega (arith, front-length f)) ∙ sym l in
-      let y : ys ≡ src = e ∙ copied src (part cur at n) p in
+      let p : length (part cur at n) ≡ length src = partLaws .length-part cur at n (omega (arith, front-length f)) ∙ sym l in
+      let y : ys ≡ src = e ∙ putLaws .copied src (part cur at n) p in
       front-is (front-lent ys n (ap length y ∙ l) h) (ap (λ (l : List ℕ). a ++ l) y) refl
 
 -- a lent front that came back with ys in it

@@ -8,8 +8,7 @@ use native.Mathlib.Omega.{arith}
 use borrow.Author.Tests.{ltb-false, lt-ltb, le-ltb, lt-leb, ne-eqb, eq-eqb, eqb-false, not-false}
 use lib.Dec.{eqb, ltb}
 use lib.ListN.{length, getD}
-use Rattle.little.proofs.PartLaws.{below-or}
-use Rattle.little.proofs.TestLaws.{or-false}
+use Rattle.little.proofs.Laws.{testLaws}
 use Rattle.little.specs.Runs.{any}
 use Rattle.sfc.specs.answer.Numbers.{passes}
 use Rattle.sfc.specs.format.Limits.{unlawful, aboveHouse, lengthWrong}
@@ -76,12 +75,12 @@ not-and false b e = (refl, e)
 pub right-input : (w : Input) → length (w .uuid) ≡ 16 → inputWrong w ≡ false → RightInput w
 unfolding inputWrong nameWrong lengthWrong shapeWrong
 right-input w u e =
-    let e₅ = or-false _ (not (passes (regionChecks (region w)))) e in
-    let e₄ = or-false _ (ltb (length (body w)) 331 || ltb 65536 (length (body w))) (e₅ .0) in
-    let e₃ = or-false _ (hasReserved (w .fields)) (e₄ .0) in
-    let e₂ = or-false _ (ltb 255 (length (w .name)) || any (eqb 0) (w .name)) (e₃ .0) in
-    let e₁ = or-false (eqb (w .s) 0) (outgrown w) (e₂ .0) in
-    let nm = or-false (ltb 255 (length (w .name))) (any (eqb 0) (w .name)) (e₂ .1) in
+    let e₅ = testLaws .or-false _ (not (passes (regionChecks (region w)))) e in
+    let e₄ = testLaws .or-false _ (ltb (length (body w)) 331 || ltb 65536 (length (body w))) (e₅ .0) in
+    let e₃ = testLaws .or-false _ (hasReserved (w .fields)) (e₄ .0) in
+    let e₂ = testLaws .or-false _ (ltb 255 (length (w .name)) || any (eqb 0) (w .name)) (e₃ .0) in
+    let e₁ = testLaws .or-false (eqb (w .s) 0) (outgrown w) (e₂ .0) in
+    let nm = testLaws .or-false (ltb 255 (length (w .name))) (any (eqb 0) (w .name)) (e₂ .1) in
     let sm = small w (e₁ .1) in
     let short = ltb-false 255 (length (w .name)) (nm .0) in
     let ps = not-false (passes (regionChecks (region w))) (e₅ .1) in
@@ -91,14 +90,14 @@ right-input w u e =
     let t₃ = not-and (flagsBarred (w .flags)) _ (t₂ .1) in
     let t₄ = not-and (ltb (blocks w) (length (w .priority)) || not (distinctBelow (blocks w) (w .priority))) _ (t₃ .1) in
     let t₅ = not-and (extensionWrong (blocks w + w .m) (w .flags) (w .fields)) true (t₄ .1) in
-    let pr = or-false (ltb (blocks w) (length (w .priority))) (not (distinctBelow (blocks w) (w .priority))) (t₄ .0) in
+    let pr = testLaws .or-false (ltb (blocks w) (length (w .priority))) (not (distinctBelow (blocks w) (w .priority))) (t₄ .0) in
     record {
       s-some = eqb-false (w .s) 0 (e₁ .0);
       fitting = sm;
       name-short = short;
       name-whole = nm .1;
       not-reserved = e₃ .1;
-      body-short = ltb-false 65536 (length (body w)) (or-false (ltb (length (body w)) 331) (ltb 65536 (length (body w))) (e₄ .1) .1);
+      body-short = ltb-false 65536 (length (body w)) (testLaws .or-false (ltb (length (body w)) 331) (ltb 65536 (length (body w))) (e₄ .1) .1);
       shape = ap₂ _||_ (t₁ .0) (t₂ .0);
       flags-right = t₃ .0;
       priority-few = ltb-false (blocks w) (length (w .priority)) (pr .0);
@@ -111,7 +110,7 @@ right-input w u e =
 
 short-name : (name : List ℕ) → nameWrong name ≡ false → length name ≤ 255
 unfolding nameWrong
-short-name name e = ltb-false 255 (length name) (or-false (ltb 255 (length name)) (any (eqb 0) name) e .0)
+short-name name e = ltb-false 255 (length name) (testLaws .or-false (ltb 255 (length name)) (any (eqb 0) name) e .0)
 
 pub no-block : (w : Input) → w .s ≡ 0 → true ≡ inputWrong w
 unfolding inputWrong
@@ -126,8 +125,8 @@ unfolding shapeWrong aboveHouse
 many-blocks w n u en h =
     absurd-right (inputWrong w) (λ e.
     let r = right-input w u e in
-    let o = or-false (unlawful (size w) (blocks w) (w .m) (w .s)) _ (r .shape) in
-    omega (arith, ltb-false 1024 (blocks w) (or-false (ltb 1024 (blocks w)) (ltb 32 (w .m)) (or-false _ (ltb 4096 (w .s)) (o .1) .0) .0)))
+    let o = testLaws .or-false (unlawful (size w) (blocks w) (w .m) (w .s)) _ (r .shape) in
+    omega (arith, ltb-false 1024 (blocks w) (testLaws .or-false (ltb 1024 (blocks w)) (ltb 32 (w .m)) (testLaws .or-false _ (ltb 4096 (w .s)) (o .1) .0) .0)))
 
 pub many-indices : (w : Input) (n : ℕ) → length (w .uuid) ≡ 16 → n ≡ blocks w → n < length (w .priority) → true ≡ inputWrong w
 many-indices w n u en h = absurd-right (inputWrong w) (λ e. omega (arith, right-input w u e .priority-few))
@@ -167,7 +166,7 @@ module _ (w : Input) (t : Typed w) (some : w .s ≡ 0 → ⊥) (few : blocks w �
   by-tests : nameWrong (w .name) ≡ false → length (body w) ≤ 65536 → inputWrong w ≡ left
   unfolding inputWrong nameWrong lengthWrong shapeWrong
   by-tests nw lw =
-      let nm = or-false (ltb 255 (length (w .name))) (any (eqb 0) (w .name)) nw in
+      let nm = testLaws .or-false (ltb 255 (length (w .name))) (any (eqb 0) (w .name)) nw in
       let short = ltb-false 255 (length (w .name)) (nm .0) in
       let lb = length-body w (t .uuid-long) short in
       let sm : Small w = record {
@@ -213,7 +212,7 @@ module _ (w : Input) (t : Typed w) (some : w .s ≡ 0 → ⊥) (few : blocks w �
           || not (distinctBelow (blocks w) (w .priority)) || extensionWrong (blocks w + w .m) (w .flags) (w .fields)) ≡ inputWrong w
       by-length nw lb =
           ⊎-elim (λ (g : 65536 < h). rw (lt-ltb 65536 h g) (sym (wrong-length (omega arith))))
-          (λ (g : h ≤ 65536). rw (le-ltb 65536 h g) (sym (by-tests nw (omega arith)))) (below-or 65536 h)
+          (λ (g : h ≤ 65536). rw (le-ltb 65536 h g) (sym (by-tests nw (omega arith)))) (testLaws .below-or 65536 h)
 
       by-name : (b : Bool) → nameWrong (w .name) ≡ b → (b || ltb 65536 h || hasReserved (w .fields) || shapeWrong (size w) (blocks w) (w .m) (w .s) || flagsBarred (w .flags)
           || not (distinctBelow (blocks w) (w .priority)) || extensionWrong (blocks w + w .m) (w .flags) (w .fields)) ≡ inputWrong w

@@ -8,8 +8,7 @@ use lib.ListN.{length, getD, take, drop, length-append, length-replicate}
 use lib.Seq.{take-suc, take-all}
 use Rattle.little.specs.Parts.{part}
 use Rattle.little.specs.Fields.{bytesOf, putLe}
-use Rattle.little.proofs.PartLaws.{length-part}
-use Rattle.little.proofs.FieldLaws.{long}
+use Rattle.little.proofs.Laws.{partLaws, littleLaws}
 use Rattle.blake3.specs.Tree.{hash}
 use Rattle.sfc.specs.format.Bytes.{padded}
 use Rattle.little.specs.Runs.{zeros}
@@ -29,7 +28,7 @@ padded-made b d e zs k h ee ek ez =
     let f = front-copied d b e h ee in
     let le = front-length f in
     let j : k ≡ length d - length b = omega arith in
-    let l : length (part e (length b) k) ≡ k = length-part e (length b) k (omega arith) in
+    let l : length (part e (length b) k) ≡ k = partLaws .length-part e (length b) k (omega arith) in
     let z : zs ≡ zeros (length d - length b) = ez ∙ ap (λ (n : ℕ). zeros n) (l ∙ j) in
     let lz : length zs ≡ k = ap length ez ∙ length-replicate (length (part e (length b) k)) 0 ∙ l in
     front-end (front-lent f zs k lz (omega arith)) (omega arith) ∙ ap (λ (x : List ℕ). b ++ x) z
@@ -58,7 +57,7 @@ identity-made uuid name digest d y d₂ d₃ p z size format h u g n ey e₂ e�
     let f₁ = front-copy (front-start d) uuid y 16 u (omega arith) ey in
     let f₂ = front-le f₁ 8 size (omega arith) e₂ in
     let f₃ = front-le f₂ 2 format (omega arith) e₃ in
-    let l : length (part d₃ 26 255) ≡ 255 = length-part d₃ 26 255 (omega (arith, front-length f₃)) in
+    let l : length (part d₃ 26 255) ≡ 255 = partLaws .length-part d₃ 26 255 (omega (arith, front-length f₃)) in
     let q : p ≡ padded 255 name = ep ∙ ap (λ (k : ℕ). padded k name) l in
     let f₄ = front-lent f₃ p 255 (ap length q ∙ length-padded 255 name n) (omega arith) in
     let f₅ = front-copy f₄ digest z 32 g (omega arith) ez in
@@ -80,10 +79,14 @@ unfolding indexBytes
 index-append [] x = append-nil (bytesOf 4 x)
 index-append (y ∷ xs) x = ap (λ (l : List ℕ). bytesOf 4 y ++ l) (index-append xs x) ∙ sym (append-assoc (bytesOf 4 y) (indexBytes xs) (bytesOf 4 x))
 
+-- a number has as many bytes as its field, as a rule for `simp`
+pub length-field : (width v : ℕ) → length (bytesOf width v) ≡ width
+length-field width v = littleLaws width .long v
+
 pub length-indices : (list : List ℕ) → length (indexBytes list) ≡ 4 * length list
 unfolding indexBytes
 length-indices [] = refl
-length-indices (x ∷ xs) = length-append (bytesOf 4 x) (indexBytes xs) ∙ omega (arith, long 4 x, length-indices xs)
+length-indices (x ∷ xs) = length-append (bytesOf 4 x) (indexBytes xs) ∙ omega (arith, littleLaws 4 .long x, length-indices xs)
 
 -- the indices before i stand there
 pub indices-start : (d list : List ℕ) → Front d (indexBytes (take 0 list)) (4 * 0) d
@@ -105,7 +108,7 @@ indices-end d list e i h l f = front-end f (omega arith) ∙ ap indexBytes (take
 
 pub length-header : (uuid : List ℕ) (n m s i : ℕ) → length uuid ≡ 16 → length (chunkHeader uuid n m s i) ≡ 48
 unfolding chunkHeader
-length-header uuid n m s i u = simp (length-append, long, u)
+length-header uuid n m s i u = simp (length-append, length-field, u)
 
 pub header-made : (uuid d y b z d₁ d₂ d₃ x g zs : List ℕ) (n m s i t e : ℕ) → length d ≡ 48 → length uuid ≡ 16
     → y ≡ take (length chunkMagic) chunkMagic ++ drop (length chunkMagic) (part d 0 4) → b ≡ take 0 d ++ (y ++ drop 4 (drop 0 d))
@@ -121,7 +124,7 @@ header-made uuid d y b z d₁ d₂ d₃ x g zs n m s i t e h u ey eb ez e₁ et 
     let f₂ = front-copy f₁ uuid z 16 u (omega arith) ez in
     let f₃ = front-le (front-le (front-le f₂ 4 i (omega arith) e₁) 4 t (omega arith) e₂) 4 s (omega arith) e₃ in
     let f₄ = front-is (front-copy f₃ (0 ∷ e ∷ []) x 2 refl (omega arith) ex) refl (sym eg) in
-    let l : length (part g 34 14) ≡ 14 = length-part g 34 14 (omega (arith, front-length f₄)) in
+    let l : length (part g 34 14) ≡ 14 = partLaws .length-part g 34 14 (omega (arith, front-length f₄)) in
     let q : zs ≡ zeros 14 = es ∙ ap (λ (k : ℕ). zeros k) l in
     front-end (front-lent f₄ zs 14 (ap length q) (omega arith)) (sym h)
     ∙ rw (q, et, ee)
@@ -163,7 +166,7 @@ unfolding trailerBytes
 trailer-made digest d y z d₁ zs time h l ey ez e₁ es =
     let f₁ = front-copy (front-start d) trailerMagic y 8 refl (omega arith) ey in
     let f₂ = front-le (front-copy f₁ digest z 32 l (omega arith) ez) 8 time (omega arith) e₁ in
-    let n : length (part d₁ 48 16) ≡ 16 = length-part d₁ 48 16 (omega (arith, front-length f₂)) in
+    let n : length (part d₁ 48 16) ≡ 16 = partLaws .length-part d₁ 48 16 (omega (arith, front-length f₂)) in
     let q : zs ≡ zeros 16 = es ∙ ap (λ (k : ℕ). zeros k) n in
     front-end (front-lent f₂ zs 16 (ap length q) (omega arith)) (sym h)
     ∙ ap (λ (x : List ℕ). trailerMagic ++ digest ++ bytesOf 8 time ++ x) q

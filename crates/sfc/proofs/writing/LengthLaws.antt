@@ -1,55 +1,26 @@
--- How long a hash, a chunk, lists joined, and the parts of a written file are. Assumes nothing.
+-- How long a chunk, lists joined, and the parts of a written file are. Assumes nothing.
 use Prim.Native.Nat.{ℕ, zero, suc, _+_, _*_, _<_}
 use mathlib.Core.Path.{_≡_, refl, sym, ap, ap₂, _∙_}
-use mathlib.Core.Bool.{Bool, true, false, cond}
+use mathlib.Core.Bool.{false}
 use mathlib.Core.List.{List, [], _∷_, _++_, append-assoc, append-nil}
 use native.Mathlib.Nat.{suc-mul, zero-mul}
 use native.Mathlib.Omega.{arith}
-use lib.Dec.{leb}
 use lib.ListN.{length, length-append}
-use Rattle.little.specs.Fields.{bytesOf}
-use Rattle.little.proofs.FieldLaws.{long}
-use Rattle.blake3.specs.Compress.{compressed, folded, bytesOfWords}
-use Rattle.blake3.specs.Tree.{piece, parent, tree, hash}
+use Rattle.blake3.specs.Tree.{hash}
+use Rattle.blake3.proofs.Laws.{hashLaws}
 use Rattle.cauchy.specs.Code.{joined}
-use Rattle.cauchy.proofs.ForUpperFloors.{length-code}
+use Rattle.cauchy.proofs.Laws.{codeLaws}
+use Rattle.sfc.specs.format.Chunk.{endMarker}
 use Rattle.sfc.specs.session.Lent.{shapeWrong}
 use Rattle.sfc.specs.writing.Writer.{Input, size, blocks, dataOf, payload, trailerBytes, sealed, chunkHeader, chunkBytes}
-use Rattle.sfc.proofs.writing.LayoutLaws.{length-header, length-padded}
+use Rattle.sfc.specs.session.Right.{RightShape}
+use Rattle.sfc.proofs.writing.LayoutLaws.{length-field, length-header, length-padded}
 use Rattle.sfc.proofs.format.LimitLaws.{wanted-holds}
-use Rattle.sfc.proofs.session.MarkLaws.{RightShape, right-shape}
-
--- ---- a hash has 32 bytes
-
-length-pick : (b : Bool) (x y : List ℕ) → length x ≡ 8 → length y ≡ 8 → length (cond b x y) ≡ 8
-length-pick true x y h k = h
-length-pick false x y h k = k
-
-length-piece : (i root : ℕ) (xs : List ℕ) → length (piece i root xs) ≡ 8
-unfolding piece compressed folded
-length-piece i root xs = refl
-
-length-parent : (root : ℕ) (l r : List ℕ) → length (parent root l r) ≡ 8
-unfolding parent compressed folded
-length-parent root l r = refl
-
-length-tree : (d i root : ℕ) (xs : List ℕ) → length (tree d i root xs) ≡ 8
-unfolding tree
-length-tree zero i root xs = length-piece i root xs
-length-tree (suc d) i root xs = length-pick (leb (length xs) 1024) _ _ (length-piece i root xs) (length-parent root _ _)
-
-length-words : (ws : List ℕ) → length (bytesOfWords ws) ≡ 4 * length ws
-unfolding bytesOfWords
-length-words [] = refl
-length-words (w ∷ ws) = length-append (bytesOf 4 w) (bytesOfWords ws) ∙ omega (arith, long 4 w, length-words ws)
-
-pub length-hash : (xs : List ℕ) → length (hash xs) ≡ 32
-unfolding hash
-length-hash xs = omega (arith, length-words (tree (length xs) 0 8 xs), length-tree (length xs) 0 8 xs)
+use Rattle.sfc.proofs.session.MarkLaws.{right-shape}
 
 pub length-sealed : (b : List ℕ) → length (sealed b) ≡ 36 + length b
 unfolding sealed
-length-sealed b = simp (length-append, length-hash) (omega arith)
+length-sealed b = omega (arith, length-append (b ++ hash b) endMarker, length-append b (hash b), hashLaws .length-hash b)
 
 pub length-chunk : (uuid : List ℕ) (n m s i : ℕ) (payload : List ℕ) → length uuid ≡ 16 → length (chunkBytes uuid n m s i payload) ≡ 84 + length payload
 unfolding chunkBytes
@@ -98,7 +69,7 @@ length-joined f c (suc n) k h =
 
 pub length-trailer : (digest : List ℕ) (time : ℕ) → length digest ≡ 32 → length (trailerBytes digest time) ≡ 64
 unfolding trailerBytes
-length-trailer digest time d = simp (length-append, long, d)
+length-trailer digest time d = simp (length-append, length-field, d)
 
 module _ (w : Input) (right : shapeWrong (size w) (blocks w) (w .m) (w .s) ≡ false) where
   shape : RightShape (size w) (blocks w) (w .m) (w .s)
@@ -110,4 +81,4 @@ module _ (w : Input) (right : shapeWrong (size w) (blocks w) (w .m) (w .s) ≡ f
 
   pub length-payload : (i : ℕ) → length (payload w i) ≡ w .s
   unfolding payload
-  length-payload i = length-code (blocks w) (w .m) (w .s) (dataOf w) i (shape .s-even) length-data
+  length-payload i = codeLaws .length-code (blocks w) (w .m) (w .s) (dataOf w) i (shape .s-even) length-data

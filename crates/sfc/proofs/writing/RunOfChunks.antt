@@ -9,11 +9,11 @@ use borrow.Author.Tests.{lt-ltb, le-ltb, eq-eqb}
 use lib.ListN.{length, take, drop}
 use lib.Seq.{take-all}
 use Rattle.little.specs.Parts.{part, block}
-use Rattle.little.proofs.PartLaws.{block-inside, length-part, part-append-left, part-append-right}
+use Rattle.little.proofs.Laws.{blockLaws, partLaws}
 use Rattle.cauchy.specs.Code.{joined, recoveryBlock, codeBlock}
 use Rattle.cauchy.specs.Calls.{wrongShape, wrongParts, partsSpec, Recovered}
 use Rattle.cauchy.specs.declared.Answer.{Answer}
-use Rattle.cauchy.proofs.ForUpperFloors.{right, length-recovery}
+use Rattle.cauchy.proofs.Laws.{codeLaws}
 use Rattle.sfc.specs.writing.Writer.{chunkHeader, sealed, chunkBytes}
 use Rattle.sfc.proofs.writing.FillLaws.{Front, front-start, front-length, front-end, front-lent, front-is, front-first, front-take}
 use Rattle.sfc.proofs.writing.LayoutLaws.{length-header}
@@ -35,7 +35,7 @@ module _ {f : ℕ → List ℕ} {count width : ℕ} {d₀ : List ℕ} {i at : �
   run-length = front-length (r .laid)
 
   pub run-room : i < count → at + width ≤ length d
-  run-room h = omega (arith, r .reached, r .whole, run-length, block-inside width count i h)
+  run-room h = omega (arith, r .reached, r .whole, run-length, blockLaws .block-inside width count i h)
 
   pub run-turn : i < count → (ys : List ℕ) (n at′ : ℕ) → n ≡ width → at′ ≡ at + width → ys ≡ f i → length (f i) ≡ width
       → Run f count width d₀ (i + 1) at′ (take at d ++ (ys ++ drop n (drop at d)))
@@ -63,17 +63,17 @@ dataChunk uuid n m s front i = chunkBytes uuid n m s i (block s front i)
 
 -- block i lies in the front
 pub from-room : (count s i from : ℕ) (front : List ℕ) → length front ≡ count * s → from ≡ i * s → i < count → from + s ≤ length front
-from-room count s i from front h e l = omega (arith, block-inside s count i l)
+from-room count s i from front h e l = omega (arith, blockLaws .block-inside s count i l)
 
 -- the part lent for one chunk
 pub chunk-lent : (at s a : ℕ) (d : List ℕ) → a ≡ at + 84 + s - at → at + (84 + s) ≤ length d → length (part d at a) ≡ 84 + s
-chunk-lent at s a d e h = length-part d at a (omega arith) ∙ omega arith
+chunk-lent at s a d e h = partLaws .length-part d at a (omega arith) ∙ omega arith
 
 -- and the chunk has room for it
 pub data-asked : (at s from a b : ℕ) (d front : List ℕ) → a ≡ at + 84 + s - at → b ≡ from + s - from → at + (84 + s) ≤ length d → from + s ≤ length front
     → length (part d at a) ≡ 84 + length (part front from b)
 data-asked at s from a b d front ea eb h k =
-    length-part d at a (omega arith) ∙ omega (arith, length-part front from b (omega arith))
+    partLaws .length-part d at a (omega arith) ∙ omega (arith, partLaws .length-part front from b (omega arith))
 
 module _ (uuid : List ℕ) (n m s : ℕ) (front d₀ : List ℕ) (u : length uuid ≡ 16) (long : length front ≡ (n - 1) * s) where
   pub data-turn : (i from at : ℕ) (d : List ℕ) → Run (dataChunk uuid n m s front) (n - 1) (84 + s) d₀ i at d → from ≡ i * s → i < n - 1
@@ -84,7 +84,7 @@ module _ (uuid : List ℕ) (n m s : ℕ) (front d₀ : List ℕ) (u : length uui
       let q : part front from b ≡ block s front i = ap₂ (λ (x y : ℕ). part front x y) e k in
       let w : at′ ≡ at + (84 + s) = omega arith in
       run-turn r h ys a at′ (omega arith) w (ey ∙ ap (chunkBytes uuid n m s i) q)
-      (length-chunk uuid n m s i (block s front i) u ∙ ap (λ (x : ℕ). 84 + x) (length-part front (i * s) s (omega (arith, block-inside s (n - 1) i h))))
+      (length-chunk uuid n m s i (block s front i) u ∙ ap (λ (x : ℕ). 84 + x) (partLaws .length-part front (i * s) s (omega (arith, blockLaws .block-inside s (n - 1) i h))))
 
 -- ---- the recovery chunks
 
@@ -113,9 +113,9 @@ module _ (uuid : List ℕ) (n m s k : ℕ) (front last : List ℕ) (u : length u
   recovery-chunk-made hf hl c y z e b a i end q r h ei ey ea ee eq er eb es =
       let f₁ = front-is (front-lent (front-start c) y 48 (ap length ey ∙ length-header uuid n m s i u) (omega arith)) refl (sym ea) in
       let j : q ≡ s = omega (arith, front-length f₁) in
-      let o : length (part a 48 q) ≡ s = length-part a 48 q (omega (arith, front-length f₁)) ∙ j in
+      let o : length (part a 48 q) ≡ s = partLaws .length-part a 48 q (omega (arith, front-length f₁)) ∙ j in
       let ez : z ≡ recoveryBlock n m s (front ++ last) k = parts-answer n m s k front last (part a 48 q) z r w (parts-wrong n m s k front last (part a 48 q) hk hf hl o) er in
-      let lz : length z ≡ q = ap length ez ∙ length-recovery n m s (front ++ last) k (right n m s w .even) ∙ sym j in
+      let lz : length z ≡ q = ap length ez ∙ codeLaws .length-recovery n m s (front ++ last) k (codeLaws .right n m s w .even) ∙ sym j in
       let f₂ = front-is (front-lent f₁ z q lz (omega arith)) refl (sym eb) in
       let p : length b - 36 ≡ 48 + q = omega (arith, front-length f₂) in
       es ∙ ap sealed (ap (λ (x : ℕ). take x b) p ∙ front-take f₂ ∙ ap₂ _++_ (ey ∙ ap (chunkHeader uuid n m s) ei) ez)
@@ -127,7 +127,7 @@ module _ (uuid : List ℕ) (n m s k : ℕ) (front last : List ℕ) (u : length u
       let w₁ : at′ ≡ at + (84 + s) = omega arith in
       run-turn r hk ys a at′ (omega arith) w₁ ey
       (length-chunk uuid n m s (n + k) (recoveryBlock n m s (front ++ last) k) u
-      ∙ ap (λ (x : ℕ). 84 + x) (length-recovery n m s (front ++ last) k (right n m s w .even)))
+      ∙ ap (λ (x : ℕ). 84 + x) (codeLaws .length-recovery n m s (front ++ last) k (codeLaws .right n m s w .even)))
 
 -- ---- all chunks
 
@@ -136,13 +136,13 @@ module _ (n m s : ℕ) (front last : List ℕ) (n₁ : 1 ≤ n) (hf : length fro
   code-front : (i : ℕ) → i < n - 1 → codeBlock n m s (front ++ last) i ≡ block s front i
   unfolding codeBlock
   code-front i h =
-      rw (lt-ltb i n (omega arith)) (part-append-left front last (i * s) s (omega (arith, block-inside s (n - 1) i h)))
+      rw (lt-ltb i n (omega arith)) (partLaws .part-append-left front last (i * s) s (omega (arith, blockLaws .block-inside s (n - 1) i h)))
 
   code-last : codeBlock n m s (front ++ last) (n - 1) ≡ last
   unfolding codeBlock
   code-last =
       let e : (n - 1) * s ≡ length front + 0 = omega arith in
-      rw (lt-ltb (n - 1) n (omega arith)) (ap (λ (k : ℕ). part (front ++ last) k s) e ∙ part-append-right front last 0 s ∙ take-all s last (omega arith))
+      rw (lt-ltb (n - 1) n (omega arith)) (ap (λ (k : ℕ). part (front ++ last) k s) e ∙ partLaws .part-append-right front last 0 s ∙ take-all s last (omega arith))
 
   code-recovery : (k : ℕ) → codeBlock n m s (front ++ last) (n + k) ≡ recoveryBlock n m s (front ++ last) k
   unfolding codeBlock
@@ -157,7 +157,7 @@ codeChunk uuid n m s blocks i = chunkBytes uuid n m s i (codeBlock n m s blocks 
 pub all-room : (n m s : ℕ) (d : List ℕ) → wrongShape n m s ≡ false → length d ≡ (n + m) * (84 + s)
     → (1 ≤ n) × ((n - 1) * (84 + s) + (84 + s) + m * (84 + s) ≡ length d)
 all-room n m s d w h =
-    let o = right n m s w .n-least in
+    let o = codeLaws .right n m s w .n-least in
     let e : n + m ≡ n - 1 + 1 + m = omega arith in
     (o, omega (arith, h, ap (λ (k : ℕ). k * (84 + s)) e, add-mul (n - 1 + 1) m (84 + s), add-mul (n - 1) 1 (84 + s), one-mul (84 + s)))
 
@@ -180,7 +180,7 @@ module _ (uuid : List ℕ) (n m s : ℕ) (front last d : List ℕ) (u : length u
   data-long =
       ap length e₁ ∙ length-joined (dataChunk uuid n m s front) 0 (n - 1) (84 + s)
       (λ k h. let z : 0 + k ≡ k = omega arith in rw z
-      (length-chunk uuid n m s k (block s front k) u ∙ ap (λ (x : ℕ). 84 + x) (length-part front (k * s) s (omega (arith, block-inside s (n - 1) k h)))))
+      (length-chunk uuid n m s k (block s front k) u ∙ ap (λ (x : ℕ). 84 + x) (partLaws .length-part front (k * s) s (omega (arith, blockLaws .block-inside s (n - 1) k h)))))
 
   first : Front d (joined f 0 (n - 1)) ((n - 1) * (84 + s)) d₁
   first = front-is (front-first d y₁ ((n - 1) * (84 + s)) data-long (omega (arith, all-room n m s d w hd .1))) data-chunks (sym g₁)
@@ -207,7 +207,7 @@ module _ (uuid : List ℕ) (n m s : ℕ) (front last d : List ℕ) (u : length u
 
     pub all-left : (j : ℕ) → j ≡ length d₂ - ((n - 1) * (84 + s) + (84 + s)) → length (part d₂ ((n - 1) * (84 + s) + (84 + s)) j) ≡ m * (84 + s)
     all-left j ej =
-        length-part d₂ ((n - 1) * (84 + s) + (84 + s)) j (omega (arith, all-second, all-room n m s d w hd .1))
+        partLaws .length-part d₂ ((n - 1) * (84 + s) + (84 + s)) j (omega (arith, all-second, all-room n m s d w hd .1))
         ∙ omega (arith, all-second, all-room n m s d w hd .1)
 
     pub all-made : (y₃ : List ℕ) (j : ℕ) → j ≡ length d₂ - ((n - 1) * (84 + s) + (84 + s)) → y₃ ≡ joined (recoveryChunk uuid n m s (front ++ last)) 0 m
@@ -217,7 +217,7 @@ module _ (uuid : List ℕ) (n m s : ℕ) (front last d : List ℕ) (u : length u
         let g = all-room n m s d w hd .1 in
         let l : length y₃ ≡ j = ap length e₃ ∙ length-joined (recoveryChunk uuid n m s (front ++ last)) 0 m (84 + s)
         (λ k h. length-chunk uuid n m s (n + (0 + k)) (recoveryBlock n m s (front ++ last) (0 + k)) u
-        ∙ ap (λ (x : ℕ). 84 + x) (length-recovery n m s (front ++ last) (0 + k) (right n m s w .even))) ∙ omega (arith, all-second, g) in
+        ∙ ap (λ (x : ℕ). 84 + x) (codeLaws .length-recovery n m s (front ++ last) (0 + k) (codeLaws .right n m s w .even))) ∙ omega (arith, all-second, g) in
         let c : y₃ ≡ joined f n m = e₃ ∙ joined-same (recoveryChunk uuid n m s (front ++ last)) f 0 n m
         (λ k h. let z : 0 + k ≡ k = omega arith in rw z (ap (chunkBytes uuid n m s (n + k)) (sym (code-recovery n m s front last n₁ hf hl k)))) in
         front-end (front-lent second y₃ j l (omega (arith, all-second, g))) (omega (arith, all-second, g))
@@ -225,4 +225,4 @@ module _ (uuid : List ℕ) (n m s : ℕ) (front last d : List ℕ) (u : length u
 
 pub last-lent : (n s k : ℕ) (d last : List ℕ) → k ≡ (n - 1) * (84 + s) + (84 + s) - (n - 1) * (84 + s) → length last ≡ s → (n - 1) * (84 + s) + (84 + s) ≤ length d
     → length (part d ((n - 1) * (84 + s)) k) ≡ 84 + length last
-last-lent n s k d last ek hl h = length-part d ((n - 1) * (84 + s)) k (omega arith) ∙ omega arith
+last-lent n s k d last ek hl h = partLaws .length-part d ((n - 1) * (84 + s)) k (omega arith) ∙ omega arith

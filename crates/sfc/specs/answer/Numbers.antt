@@ -1,7 +1,8 @@
 -- The numbers of document 01's table, one for each reason, and lists of checks that are tried in order. Assumes nothing:
 -- these are definitions.
 use Prim.Native.Nat.{ℕ, zero, suc}
-use mathlib.Core.Bool.{Bool, true, cond, not, _&&_}
+use mathlib.Core.Path.{_≡_}
+use mathlib.Core.Bool.{Bool, true, false, cond, not, _&&_}
 use mathlib.Core.List.{List, [], _∷_}
 use lib.Dec.{eqb}
 use Rattle.sfc.specs.declared.answer.reason.Reason.{Reason}
@@ -84,6 +85,16 @@ thenCheck (Refused r) test why = Refused r
 abbrev pub passes : List Check → Bool
 passes [] = true
 passes (c ∷ cs) = not (c .0) && passes cs
+
+-- each test of a list is false
+abbrev pub Passed : List Check → Type 0
+Passed [] = Unit {0}
+Passed (c ∷ cs) = (c .0 ≡ false) × Passed cs
+
+-- each number of a list is one of those
+abbrev pub NumbersAre : (ℕ → Type 0) → List Check → Type 0
+NumbersAre P [] = Unit {0}
+NumbersAre P (c ∷ cs) = P (numberOf (reasonOf (c .1))) × NumbersAre P cs
 
 -- what a call with one lent output answers, and what the output holds afterwards
 pub record Answered (A : Type 0) : Type 0 where

@@ -2,13 +2,13 @@
 use native.Mathlib.Omega.{arith}
 use mathlib.Core.Path.{refl}
 use lib.ListN.{length}
-use Rattle.little.proofs.ListLaws.{copied-in}
+use Rattle.little.proofs.Laws.{putLaws}
 use borrow.Author.Needs.{needs}
 use Rattle.blake3.proofs.running.put_part.Statement.{statement}
 use Rattle.blake3.proofs.running.put_part.Tie as tie
 
 returns : tie.Need-returns
-returns c = let a = c .before .before .before .before .before .before .args in copied-in (a .bytes .now) (a .part .now) (c .before .before .copy .last .1 .0) (a .at) (length (a .part .now)) (omega arith) refl (c .before .before .copy .ensures .1)
+returns c = let a = c .before .before .before .before .before .before .args in putLaws .copied-in (a .bytes .now) (a .part .now) (c .before .before .copy .last .1 .0) (a .at) (length (a .part .now)) (omega arith) refl (c .before .before .copy .ensures .1)
 
 pub put-part-spec : {M : Type 1} → statement M
 put-part-spec =

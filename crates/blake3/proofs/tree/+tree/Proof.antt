@@ -3,7 +3,7 @@ use mathlib.Core.Path.{sym, _∙_}
 use native.Mathlib.Omega.{arith}
 use lib.ListN.{length}
 use Rattle.blake3.proofs.Splits.{left-parts, tree-whole, tree-split}
-use Rattle.little.proofs.PartLaws.{part-rest}
+use Rattle.little.proofs.Laws.{partLaws}
 use borrow.Author.Needs.{needs}
 use Prim.Native.Nat.{ℕ, _*_, _<_}
 use borrow.Fn.Kinds.{In}
@@ -51,4 +51,4 @@ pub +tree-spec : {M : Type 1} → statement M
     (λ c. let a = c .before .before .before .before .before .before .args in let lt : 1024 < length (a .s .now) = omega arith in let q = left-parts (a .s .now) (c .before .before .before .left-pieces .result) lt (c .before .before .before .left-pieces .ensures) in omega arith)
     (λ c κs. let a = c .before .before .before .before .before .before .args in let lt : 1024 < length (a .s .now) = omega arith in let q = left-parts (a .s .now) (c .before .before .before .left-pieces .result) lt (c .before .before .before .left-pieces .ensures) in omega arith)
     (λ c κs. search needs)
-    (λ c. let a = c .before .before .before .before .before .before .before .before .args in let lt : 1024 < length (a .s .now) = omega arith in let q = left-parts (a .s .now) (c .before .before .before .before .before .left-pieces .result) lt (c .before .before .before .before .before .left-pieces .ensures) in let p = c .before .before .before .before .before .left-pieces .result in tree-split (length (a .s .now)) (a .i) (a .root) p (a .s .now) lt (omega arith) (c .before .before .before .before .before .left-pieces .ensures) (c .before .before .before .tree .ensures) (rw (part-rest (a .s .now) (p * 1024)) at (c .before .tree2 .ensures)) (c .parent .ensures))
+    (λ c. let a = c .before .before .before .before .before .before .before .before .args in let lt : 1024 < length (a .s .now) = omega arith in let q = left-parts (a .s .now) (c .before .before .before .before .before .left-pieces .result) lt (c .before .before .before .before .before .left-pieces .ensures) in let p = c .before .before .before .before .before .left-pieces .result in tree-split (length (a .s .now)) (a .i) (a .root) p (a .s .now) lt (omega arith) (c .before .before .before .before .before .left-pieces .ensures) (c .before .before .before .tree .ensures) (rw (partLaws .part-rest (a .s .now) (p * 1024)) at (c .before .tree2 .ensures)) (c .parent .ensures))

@@ -6,7 +6,7 @@ use native.Mathlib.Omega.{arith}
 use lib.ListN.{length}
 use borrow.Author.Needs.{needs}
 use Rattle.cauchy.specs.Code.{wordBytes}
-use Rattle.little.proofs.PartLaws.{block-inside}
+use Rattle.little.proofs.Laws.{blockLaws}
 use Rattle.cauchy.proofs.shape.ShapeLaws.{few}
 use Rattle.cauchy.proofs.blocks.BlockLaws.{zero-words}
 use Rattle.cauchy.proofs.blocks.CodeLaws.{length-part, firstShares, sum-start, sum-turn, sum-end, length-out}
@@ -34,17 +34,17 @@ entry-requires c κs = let q = c .before .before .before .before .before .before
 mul-at : tie.Need-mul-at Inv-loop μ-loop
 mul-at c =
     let q = c .before .before .before .before .before .before .before .before .before in
-    omega (arith, block-inside (q .args .s) (q .args .count) (c .before .before .loop .j) (omega arith), few (q .args .count) (q .args .s) (omega (arith, q .pre .0)) (q .pre .2))
+    omega (arith, blockLaws .block-inside (q .args .s) (q .args .count) (c .before .before .loop .j) (omega arith), few (q .args .count) (q .args .s) (omega (arith, q .pre .0)) (q .pre .2))
 
 add-end : tie.Need-add-end Inv-loop μ-loop
 add-end c =
     let q = c .before .before .before .before .before .before .before .before .before in
-    omega (arith, block-inside (q .args .s) (q .args .count) (c .before .before .loop .j) (omega arith), few (q .args .count) (q .args .s) (omega (arith, q .pre .0)) (q .pre .2))
+    omega (arith, blockLaws .block-inside (q .args .s) (q .args .count) (c .before .before .loop .j) (omega arith), few (q .args .count) (q .args .s) (omega (arith, q .pre .0)) (q .pre .2))
 
 part-mul-add-end : tie.Need-part-mul-add-end Inv-loop μ-loop
 part-mul-add-end c =
     let q = c .before .before .before .before .before .before .before .before .before .before in
-    omega (arith, q .pre, block-inside (q .args .s) (q .args .count) (c .before .before .before .loop .j) (omega arith))
+    omega (arith, q .pre, blockLaws .block-inside (q .args .s) (q .args .count) (c .before .before .before .loop .j) (omega arith))
 
 mul-add-requires : tie.Need-mul-add-requires Inv-loop μ-loop
 mul-add-requires c κs =

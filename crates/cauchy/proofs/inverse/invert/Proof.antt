@@ -1,5 +1,5 @@
 -- `invert` meets its contract. Assumes nothing.
-use Rattle.little.proofs.PartLaws.{length-part}
+use Rattle.little.proofs.Laws.{partLaws}
 use Rattle.cauchy.proofs.inverse.InverseLaws.{square-inside, Rowed, rowed-start, rowed-turn, rowed-end}
 use mathlib.Core.Path.{_≡_, _∙_}
 use Prim.Native.Nat.{_+_, _-_, _*_, _≤_}
@@ -34,7 +34,7 @@ part-invert-row-end c = let a = c .before .before .before .before .before .args 
 invert-row-requires : tie.Need-invert-row-requires Inv-loop μ-loop
 invert-row-requires c κs = let a = c .before .before .before .before .before .before .args in let g = c .before .before .before .before .before .before .pre in let l = c .before .before .loop in
     let w = add-sub-cancel-left (l .i * length (a .xs .now)) (length (a .xs .now)) in
-    (g .0, length-part (l .numbers) (l .i * length (a .xs .now)) _ (omega (arith, square-inside (length (a .xs .now)) (l .i) (g .1) (omega arith), l .inv .1, w)) ∙ w, omega arith)
+    (g .0, partLaws .length-part (l .numbers) (l .i * length (a .xs .now)) _ (omega (arith, square-inside (length (a .xs .now)) (l .i) (g .1) (omega arith), l .inv .1, w)) ∙ w, omega arith)
 
 loop-again : tie.Need-loop-again Inv-loop μ-loop
 loop-again c = let a = c .before .before .before .before .before .before .before .before .before .args in let g = c .before .before .before .before .before .before .before .before .before .pre in let l = c .before .before .before .before .before .loop in

@@ -2,7 +2,7 @@
 use Prim.Native.Nat.{_-_}
 use native.Mathlib.Omega.{arith}
 use lib.ListN.{length}
-use Rattle.little.proofs.PartLaws.{part-rest}
+use Rattle.little.proofs.Laws.{partLaws}
 use Rattle.sfc.proofs.format.FieldWalk.{next-inside}
 use Rattle.sfc.proofs.format.ExtensionLaws.{At, at-start, at-end, at-cut, at-broken, at-next}
 use borrow.Author.Needs.{needs}
@@ -22,40 +22,40 @@ returns : tie.Need-returns Inv-loop μ-loop
 returns c =
     let a = c .before .before .before .before .before .before .args in
     let l = c .before .before .before .before .loop in
-    at-cut (a .blocks) (a .flags) (a .e .now) (l .least) (l .at) _ _ (l .inv) (part-rest (a .e .now) (l .at)) (c .before .next-field .ensures)
+    at-cut (a .blocks) (a .flags) (a .e .now) (l .least) (l .at) _ _ (l .inv) (partLaws .part-rest (a .e .now) (l .at)) (c .before .next-field .ensures)
     (c .before .before .before .loop-test .taken) (c .if1 .taken)
 
 sub-length : tie.Need-sub-length Inv-loop μ-loop
 sub-length c =
     let a = c .before .before .before .before .before .before .before .args in
     let l = c .before .before .before .before .before .loop in
-    next-inside (a .e .now) _ (l .at) _ (part-rest (a .e .now) (l .at)) (c .before .before .next-field .ensures) (c .before .if1 .left) .0
+    next-inside (a .e .now) _ (l .at) _ (partLaws .part-rest (a .e .now) (l .at)) (c .before .before .next-field .ensures) (c .before .if1 .left) .0
 
 returns-2 : tie.Need-returns-2 Inv-loop μ-loop
 returns-2 c =
     let a = c .before .before .before .before .before .before .before .before .before .args in
     let l = c .before .before .before .before .before .before .before .loop in
-    at-broken (a .blocks) (a .flags) (a .e .now) (l .least) (l .at) _ _ (l .inv) (part-rest (a .e .now) (l .at)) (c .before .before .before .before .next-field .ensures) (c .before .before .before .if1 .left)
+    at-broken (a .blocks) (a .flags) (a .e .now) (l .least) (l .at) _ _ (l .inv) (partLaws .part-rest (a .e .now) (l .at)) (c .before .before .before .before .next-field .ensures) (c .before .before .before .if1 .left)
     (rw (c .before .breaks-rule .ensures, c .before .before .read16 .ensures) at (c .if2 .taken))
 
 add-at : tie.Need-add-at Inv-loop μ-loop
 add-at c =
     let a = c .before .before .before .before .before .before .before .before .before .args in
     let l = c .before .before .before .before .before .before .before .loop in
-    omega (arith, next-inside (a .e .now) _ (l .at) _ (part-rest (a .e .now) (l .at)) (c .before .before .before .before .next-field .ensures) (c .before .before .before .if1 .left))
+    omega (arith, next-inside (a .e .now) _ (l .at) _ (partLaws .part-rest (a .e .now) (l .at)) (c .before .before .before .before .next-field .ensures) (c .before .before .before .if1 .left))
 
 loop-less : tie.Need-loop-less Inv-loop μ-loop
 loop-less c =
     let a = c .before .before .before .before .before .before .before .before .before .args in
     let l = c .before .before .before .before .before .before .before .loop in
-    omega (arith, next-inside (a .e .now) _ (l .at) _ (part-rest (a .e .now) (l .at)) (c .before .before .before .before .next-field .ensures) (c .before .before .before .if1 .left))
+    omega (arith, next-inside (a .e .now) _ (l .at) _ (partLaws .part-rest (a .e .now) (l .at)) (c .before .before .before .before .next-field .ensures) (c .before .before .before .if1 .left))
 
 loop-again : tie.Need-loop-again Inv-loop μ-loop
 loop-again c =
     let a = c .before .before .before .before .before .before .before .before .before .args in
     let l = c .before .before .before .before .before .before .before .loop in
     rw (c .before .before .read16 .ensures)
-    (at-next (a .blocks) (a .flags) (a .e .now) (l .least) (l .at) _ _ (l .inv) (part-rest (a .e .now) (l .at)) (c .before .before .before .before .next-field .ensures) (c .before .before .before .if1 .left)
+    (at-next (a .blocks) (a .flags) (a .e .now) (l .least) (l .at) _ _ (l .inv) (partLaws .part-rest (a .e .now) (l .at)) (c .before .before .before .before .next-field .ensures) (c .before .before .before .if1 .left)
     (rw (c .before .breaks-rule .ensures, c .before .before .read16 .ensures) at (c .if2 .left)))
 
 returns-3 : tie.Need-returns-3 Inv-loop μ-loop

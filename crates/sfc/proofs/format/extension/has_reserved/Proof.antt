@@ -2,7 +2,7 @@
 use Prim.Native.Nat.{_-_}
 use native.Mathlib.Omega.{arith}
 use lib.ListN.{length}
-use Rattle.little.proofs.PartLaws.{part-rest}
+use Rattle.little.proofs.Laws.{partLaws}
 use Rattle.sfc.proofs.format.FieldWalk.{next-inside}
 use Rattle.sfc.proofs.format.ReservedLaws.{Searching, searching-start, searching-end, none-left, reserved-found, not-reserved-here}
 use borrow.Author.Needs.{needs}
@@ -22,32 +22,32 @@ returns : tie.Need-returns Inv-loop μ-loop
 returns c =
     let e = c .before .before .before .before .before .before .args .e .now in
     let l = c .before .before .before .before .loop in
-    none-left e (l .at) _ _ (l .inv) (part-rest e (l .at)) (c .before .next-field .ensures) (c .if1 .taken)
+    none-left e (l .at) _ _ (l .inv) (partLaws .part-rest e (l .at)) (c .before .next-field .ensures) (c .if1 .taken)
 
 returns-2 : tie.Need-returns-2 Inv-loop μ-loop
 returns-2 c =
     let e = c .before .before .before .before .before .before .before .before .args .e .now in
     let l = c .before .before .before .before .before .before .loop in
-    reserved-found e (l .at) _ _ (l .inv) (part-rest e (l .at)) (c .before .before .before .next-field .ensures) (c .before .before .if1 .left)
+    reserved-found e (l .at) _ _ (l .inv) (partLaws .part-rest e (l .at)) (c .before .before .before .next-field .ensures) (c .before .before .if1 .left)
     (rw (c .before .read16 .ensures) at (c .if2 .taken))
 
 add-at : tie.Need-add-at Inv-loop μ-loop
 add-at c =
     let e = c .before .before .before .before .before .before .before .before .args .e .now in
     let l = c .before .before .before .before .before .before .loop in
-    omega (arith, next-inside e _ (l .at) _ (part-rest e (l .at)) (c .before .before .before .next-field .ensures) (c .before .before .if1 .left))
+    omega (arith, next-inside e _ (l .at) _ (partLaws .part-rest e (l .at)) (c .before .before .before .next-field .ensures) (c .before .before .if1 .left))
 
 loop-less : tie.Need-loop-less Inv-loop μ-loop
 loop-less c =
     let e = c .before .before .before .before .before .before .before .before .args .e .now in
     let l = c .before .before .before .before .before .before .loop in
-    omega (arith, next-inside e _ (l .at) _ (part-rest e (l .at)) (c .before .before .before .next-field .ensures) (c .before .before .if1 .left))
+    omega (arith, next-inside e _ (l .at) _ (partLaws .part-rest e (l .at)) (c .before .before .before .next-field .ensures) (c .before .before .if1 .left))
 
 loop-again : tie.Need-loop-again Inv-loop μ-loop
 loop-again c =
     let e = c .before .before .before .before .before .before .before .before .args .e .now in
     let l = c .before .before .before .before .before .before .loop in
-    not-reserved-here e (l .at) _ _ (l .inv) (part-rest e (l .at)) (c .before .before .before .next-field .ensures) (c .before .before .if1 .left)
+    not-reserved-here e (l .at) _ _ (l .inv) (partLaws .part-rest e (l .at)) (c .before .before .before .next-field .ensures) (c .before .before .if1 .left)
     (rw (c .before .read16 .ensures) at (c .if2 .left))
 
 returns-3 : tie.Need-returns-3 Inv-loop μ-loop

@@ -2,7 +2,7 @@
 use Prim.Native.Nat.{_+_, _*_}
 use mathlib.Core.Path.{sym, _∙_}
 use native.Mathlib.Omega.{arith}
-use Rattle.little.proofs.PartLaws.{part-rest}
+use Rattle.little.proofs.Laws.{partLaws}
 use Rattle.sfc.proofs.format.HeaderLaws.{priority-inside, lists-priority, lists-fields}
 use borrow.Author.Needs.{needs}
 use Rattle.sfc.proofs.format.header.check_lists.Statement.{statement}
@@ -38,7 +38,7 @@ returns-2 : tie.Need-returns-2
 returns-2 c =
     lists-fields (c .before .before .before .before .before .before .before .before .before .before .args .r .now) _ (c .before .before .before .before .before .before .before .before .read32 .result) (c .before .before .before .before .before .before .before .read16 .result) (c .before .before .before .before .read322 .result) (c .before .before .before .read162 .result) _ _ _ (c .before .before .before .before .before .before .before .before .read32 .ensures) (c .before .before .before .before .before .before .before .read16 .ensures)
     (c .before .before .before .before .read322 .ensures) (c .before .before .before .read162 .ensures) (c .before .before .before .before .before .before .is-priority-wrong .ensures) (c .before .before .before .before .before .if1 .left)
-    (part-rest (c .before .before .before .before .before .before .before .before .before .before .args .r .now) (335 + 4 * c .before .before .before .before .before .before .before .read16 .result)) (c .before .are-fields-wrong .ensures) (c .refuse-if .ensures ∙ then-good _ _)
+    (partLaws .part-rest (c .before .before .before .before .before .before .before .before .before .before .args .r .now) (335 + 4 * c .before .before .before .before .before .before .before .read16 .result)) (c .before .are-fields-wrong .ensures) (c .refuse-if .ensures ∙ then-good _ _)
 
 pub check-lists-spec : {M : Type 1} → statement M
 check-lists-spec =

@@ -3,7 +3,7 @@ use mathlib.Core.Path.{_∙_, ap}
 use native.Mathlib.Omega.{arith}
 use borrow.Author.Tests.{lt-ltb, le-ltb, le-leb, lt-leb}
 use lib.ListN.{length}
-use Rattle.little.proofs.PartLaws.{block-inside}
+use Rattle.little.proofs.Laws.{blockLaws}
 use Rattle.little.specs.Runs.{zeros}
 use Rattle.sfc.proofs.give.BlockLaws.{blocked-wrong, blocked-none, blocked-short, blocked-few, blocked-given}
 use Rattle.sfc.proofs.give.RebuildLaws.{rebuild-told, right-rebuild, cut-right}
@@ -35,7 +35,7 @@ mul-t30 c =
     let a = c .before .before .before .before .before .before .before .before .before .before .before .before .before .before .before .before .before .before .before .before .before .before .before .before .before .before .before .before .before .before .before in
     let r = right-rebuild (a .args .h) (a .args .store .now) (a .args .marks .now) (record { scratch = a .args .scratch .now; numbers = a .args .numbers .now; output = a .args .out .now }) (rebuild-told (a .args .h) (a .args .store .now) (a .args .marks .now) (record { scratch = a .args .scratch .now; numbers = a .args .numbers .now; output = a .args .out .now }) _ _ (c .before .before .before .before .before .before .before .before .before .before .before .before .before .before .before .before .before .before .before .before .before .before .before .before .before .is-rebuild-wrong .ensures) (c .before .before .before .before .before .before .before .before .before .before .before .before .before .before .before .before .before .before .before .before .before .before .before .before .if1 .left)) in
     let k = cut-right (a .args .h .size) (a .args .h .n) (a .args .h .m) (a .args .h .s) (r .right .shape) in
-    record { fits = omega (arith, k .small, r .right .shape .s-least, block-inside (a .args .h .s) (a .args .h .n) (a .args .number .0) (omega (arith, c .before .before .before .before .before .before .before .before .before .before .before .before .before .before .before .before .before .before .before .before .before .before .if2 .left))) }
+    record { fits = omega (arith, k .small, r .right .shape .s-least, blockLaws .block-inside (a .args .h .s) (a .args .h .n) (a .args .number .0) (omega (arith, c .before .before .before .before .before .before .before .before .before .before .before .before .before .before .before .before .before .before .before .before .before .before .if2 .left))) }
 
 returns-5 : tie.Need-returns-5
 returns-5 c =

@@ -4,7 +4,7 @@ use Prim.Native.Nat.{ℕ, _-_, _*_}
 use mathlib.Core.Path.{refl, sym, _∙_, ap}
 use native.Mathlib.Omega.{arith}
 use lib.Seq.{length-take-le}
-use Rattle.little.proofs.ListLaws.{cut-long}
+use Rattle.little.proofs.Laws.{partLaws}
 use Rattle.sfc.proofs.give.BlockLaws.{held-in, held-given, lost-in, lost-long, lost-given, had-lost, rank-rest}
 use borrow.Author.Needs.{needs}
 use Rattle.sfc.proofs.give.block.give_block.Statement.{statement}
@@ -23,7 +23,7 @@ part-copy-end : tie.Need-part-copy-end
 part-copy-end c = let a = c .before .before .before .before .before .before .before in held-in (a .args .n) (a .args .m) (a .args .s) (a .args .store .now) (a .args .marks .now) (a .args .scratch .now) (a .args .numbers .now) (a .pre .0) (a .args .j) (a .pre .1) .0
 
 copy-requires : tie.Need-copy-requires
-copy-requires c κs = let a = c .before .before .before .before .before .before .before .before .before in omega (arith, a .pre .2, cut-long (a .args .store .now) (a .args .j * a .args .s) (a .args .s) (held-in (a .args .n) (a .args .m) (a .args .s) (a .args .store .now) (a .args .marks .now) (a .args .scratch .now) (a .args .numbers .now) (a .pre .0) (a .args .j) (a .pre .1) .0))
+copy-requires c κs = let a = c .before .before .before .before .before .before .before .before .before in omega (arith, a .pre .2, partLaws .cut-long (a .args .store .now) (a .args .j * a .args .s) (a .args .s) (held-in (a .args .n) (a .args .m) (a .args .s) (a .args .store .now) (a .args .marks .now) (a .args .scratch .now) (a .args .numbers .now) (a .pre .0) (a .args .j) (a .pre .1) .0))
 
 returns : tie.Need-returns
 returns c = let a = c .before .before .before .before .before .before .before .before .before .before .before .before in let q = held-given (a .args .n) (a .args .m) (a .args .s) (a .args .store .now) (a .args .marks .now) (a .args .scratch .now) (a .args .numbers .now) (a .pre .0) (a .args .j) (a .pre .1) (a .args .out .now) _ (a .pre .2) (c .before .before .before .before .before .if1 .taken) (c .before .before .copy .ensures .1) in (q .0, q .1, (refl, refl))

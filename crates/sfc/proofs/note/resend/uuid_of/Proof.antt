@@ -3,8 +3,7 @@ use mathlib.Core.Path.{_≡_, sym, _∙_}
 use native.Mathlib.Omega.{arith}
 use lib.ListN.{length}
 use Rattle.little.specs.Parts.{part}
-use Rattle.little.proofs.PartLaws.{length-part}
-use Rattle.little.proofs.ListLaws.{copied}
+use Rattle.little.proofs.Laws.{partLaws, putLaws}
 use borrow.Author.Needs.{needs}
 use Rattle.sfc.proofs.note.resend.uuid_of.Statement.{statement}
 use Rattle.sfc.proofs.note.resend.uuid_of.Tie as tie
@@ -12,8 +11,8 @@ use Rattle.sfc.proofs.note.resend.uuid_of.Tie as tie
 returns : tie.Need-returns
 returns c =
     let b = c .before .before .before .before .before .args .note .now in
-    let l : 16 ≡ length (part b 5 16) = sym (length-part b 5 16 (omega (arith, c .before .before .before .before .before .pre))) in
-    c .before .copy .ensures .1 ∙ copied (part b 5 16) _ l
+    let l : 16 ≡ length (part b 5 16) = sym (partLaws .length-part b 5 16 (omega (arith, c .before .before .before .before .before .pre))) in
+    c .before .copy .ensures .1 ∙ putLaws .copied (part b 5 16) _ l
 
 pub uuid-of-spec : {M : Type 1} → statement M
 uuid-of-spec =

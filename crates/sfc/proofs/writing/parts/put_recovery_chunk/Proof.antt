@@ -3,14 +3,14 @@ use mathlib.Core.Path.{_≡_, refl}
 use Prim.Native.Nat.{_+_, _≤_}
 use lib.ListN.{length}
 use native.Mathlib.Omega.{arith}
-use Rattle.cauchy.proofs.ForUpperFloors.{right}
+use Rattle.cauchy.proofs.Laws.{codeLaws}
 use Rattle.sfc.proofs.writing.RunOfChunks.{recovery-chunk-made}
 use borrow.Author.Needs.{needs}
 use Rattle.sfc.proofs.writing.parts.put_recovery_chunk.Statement.{statement}
 use Rattle.sfc.proofs.writing.parts.put_recovery_chunk.Tie as tie
 
 add-put-chunk-header : tie.Need-add-put-chunk-header
-add-put-chunk-header c = let a = c .before .before .before .args in let asked = c .before .before .before .pre in let g = right (a .n) (a .m) (a .s) (asked .0) in let h : a .n + a .k ≤ 2048 = omega (arith, g, asked .1) in search needs
+add-put-chunk-header c = let a = c .before .before .before .args in let asked = c .before .before .before .pre in let g = codeLaws .right (a .n) (a .m) (a .s) (asked .0) in let h : a .n + a .k ≤ 2048 = omega (arith, g, asked .1) in search needs
 
 returns : tie.Need-returns
 returns c =
