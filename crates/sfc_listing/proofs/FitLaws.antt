@@ -139,12 +139,12 @@ module _ (f : List ℕ) where
   abbrev head : Head
   head = headOf (regionOf f)
 
-  header-good : verdict (programChecks head f) ≡ Good → verdict (headerChecks f) ≡ Good
+  pub header-good : verdict (programChecks head f) ≡ Good → verdict (headerChecks f) ≡ Good
   header-good e =
       let limit : List Check = (ltb 32768 ((head .n + head .m) * head .s), 15) ∷ [] in
       front-good (headerChecks f) limit (all-passed (headerChecks f ++ limit) (passed (programChecks head f) e .1))
 
-  session-right : verdict (headerChecks f) ≡ Good → sessionWrong head (sessionIn head f) ≡ false
+  pub session-right : verdict (headerChecks f) ≡ Good → sessionWrong head (sessionIn head f) ≡ false
   unfolding sessionIn walkOver
   session-right g = all-lent head (blank head) (chunksOf head (between f)) (blank-right head (accepted-shape f head (good-read f g)) .lent)
 
