@@ -19,7 +19,7 @@ use Rattle.sfc.specs.note.Missing.{missing}
 use Rattle.sfc.specs.note.Ranges.{Range, ranges}
 use Rattle.sfc.specs.give.HandOut.{contentChecks, handOut}
 use Rattle.sfc_listing.specs.Text.{text, digits, decimal, hexDigit, hex, line}
-use Rattle.sfc_listing.specs.Listing.{missingLines, lastWord, startText, sessionText}
+use Rattle.sfc_listing.specs.Listing.{missingLines, refusedWord, lastWord, startText, sessionText}
 use Rattle.sfc_listing.specs.ListingTheorems.{longer, linesOf, lastOf, lastLine}
 use Rattle.sfc.specs.declared.format.header.Head.{Head}
 use Rattle.sfc.specs.declared.answer.places.BytePlace.{BytePlace}
@@ -204,7 +204,7 @@ module _ (h : Head) (x : Session) where
   other = second (contentChecks h (x .store) (x .marks))
 
   word-is : lastWord h x ≡ wordBy few other
-  unfolding lastWord wordBy
+  unfolding lastWord refusedWord wordBy
   word-is = refl
 
   abbrev rs : List Range

@@ -6,5 +6,5 @@ mod FitLaws
 mod StepOver
 mod LastLine
 pub mod Demand1
-pub mod OwnFile
 pub mod ListingTheorems
+pub mod OwnFile

@@ -1,7 +1,7 @@
 -- The theorems of the listing (specs/ListingTheorems): its session is that of an accepted header, short of 43, and its last line
 -- is the hand-out's. Assumes nothing.
 use Prim.Native.Nat.{ℕ, _+_, _-_, _*_, _≤_}
-use mathlib.Core.Path.{_≡_, refl, sym, ap, ap₂, _∙_}
+use mathlib.Core.Path.{_≡_, refl, sym, ap, _∙_}
 use mathlib.Core.Logic.{_↔_}
 use mathlib.Core.Bool.{true, false}
 use mathlib.Core.List.{List, _++_, append-assoc}
@@ -10,12 +10,12 @@ use borrow.Author.Tests.{eq-eqb, ltb-false}
 use lib.ListN.{length, take, drop, take-append-drop}
 use lib.Seq.{drop-drop}
 use Rattle.little.proofs.ListLaws.{length-cut}
-use Rattle.sfc.specs.answer.Numbers.{verdict, numberOf}
+use Rattle.sfc.specs.answer.Numbers.{numberOf}
 use Rattle.sfc.specs.answer.Places.{place}
-use Rattle.sfc.specs.format.Header.{lengthField, regionOf, trailerOf, headerChecks, readHeader, acceptedHeader}
+use Rattle.sfc.specs.format.Header.{lengthField, regionOf, trailerOf, readHeader, acceptedHeader}
 use Rattle.sfc.specs.session.Lent.{Lent, shapeWrong, rebuildWrong}
 use Rattle.sfc.specs.session.Tallies.{sum}
-use Rattle.sfc.specs.session.Session.{blank, sessionWrong, verdictOf}
+use Rattle.sfc.specs.session.Session.{blank, verdictOf}
 use Rattle.sfc.specs.session.History.{afterAll, verdicts}
 use Rattle.sfc.specs.note.Missing.{missing}
 use Rattle.sfc.specs.note.Ranges.{ranges}
@@ -23,7 +23,6 @@ use Rattle.sfc_walk.specs.Walk.{walkOver}
 use Rattle.sfc_listing.specs.Listing.{between, sessionIn, lastWord, sessionText, programChecks, refusedText, listingOf}
 use Rattle.sfc_listing.specs.ListingTheorems.{headIn, sessionOfFile, Accepted, offersIn, afterOffers, steppedOver, each, RoomIn, handedOut, linesOf, lastLine, ListingTheorems}
 use Rattle.sfc.specs.declared.answer.reason.Reason.{Reason}
-use Rattle.sfc.specs.declared.answer.reason.Checked.the-variants.{Good}
 use Rattle.sfc.specs.declared.session.offer.Verdict.the-variants.{Refused}
 use Rattle.sfc.proofs.CheckLaws.{passed, good-all}
 use Rattle.sfc.proofs.RightLaws.{accepted-shape, blank-right}
