@@ -7,9 +7,9 @@ use mathlib.Core.Bool.{true, false}
 use mathlib.Core.List.{List, _++_, append-assoc}
 use native.Mathlib.Omega.{arith}
 use borrow.Author.Tests.{eq-eqb, ltb-false}
-use lib.ListN.{length, take, drop, take-append-drop}
+use lib.ListN.{length, take, drop, length-append, take-append-drop}
 use lib.Seq.{drop-drop}
-use Rattle.little.proofs.ListLaws.{length-cut}
+use Rattle.little.specs.Parts.{part}
 use Rattle.sfc.specs.answer.Numbers.{numberOf}
 use Rattle.sfc.specs.answer.Places.{place}
 use Rattle.sfc.specs.format.Header.{lengthField, regionOf, trailerOf, readHeader, acceptedHeader}
@@ -39,6 +39,10 @@ session-of-offers f = refl
 carried : {A Z : Type 0} {u v w : A} → u ≡ v → (v ≡ w) ↔ Z → (u ≡ w) ↔ Z
 carried p i = (λ e. i .0 (sym p ∙ e), λ z. p ∙ i .1 z)
 
+-- a part, and all from its end on
+joined : (f : List ℕ) (at n end : ℕ) → at + n ≡ end → part f at n ++ drop end f ≡ drop at f
+joined f at n end e = ap (λ (r : List ℕ). part f at n ++ r) (sym (drop-drop n at f ∙ ap (λ (j : ℕ). drop j f) e)) ∙ take-append-drop n (drop at f)
+
 module _ (f : List ℕ) (a : Accepted f) where
   read : readHeader f ≡ acceptedHeader (headIn f)
   read = good-read f (header-good f a)
@@ -49,17 +53,12 @@ module _ (f : List ℕ) (a : Accepted f) where
   unfolding between
   file-parts =
       let H : ℕ = lengthField f in
-      let n : ℕ = length f - 64 - (H + 12) in
       let e : 8 + (H + 4) ≡ H + 12 = omega arith in
-      let k : H + 12 + n ≡ length f - 64 = omega (arith, trailer-after (headIn f) f read) in
-      let last : between f ++ trailerOf f ≡ drop (H + 12) f
-      = ap (λ (r : List ℕ). between f ++ r) (sym (drop-drop n (H + 12) f ∙ ap (λ (j : ℕ). drop j f) k)) ∙ take-append-drop n (drop (H + 12) f) in
-      let rest : regionOf f ++ drop (H + 12) f ≡ drop 8 f
-      = ap (λ (r : List ℕ). regionOf f ++ r) (sym (drop-drop (H + 4) 8 f ∙ ap (λ (j : ℕ). drop j f) e)) ∙ take-append-drop (H + 4) (drop 8 f) in
+      let k : H + 12 + (length f - 64 - (H + 12)) ≡ length f - 64 = omega (arith, trailer-after (headIn f) f read) in
       append-assoc (take 8 f ++ regionOf f) (between f) (trailerOf f)
-      ∙ ap (λ (r : List ℕ). take 8 f ++ regionOf f ++ r) last
+      ∙ ap (λ (r : List ℕ). take 8 f ++ regionOf f ++ r) (joined f (H + 12) _ _ k)
       ∙ append-assoc (take 8 f) (regionOf f) (drop (H + 12) f)
-      ∙ ap (λ (r : List ℕ). take 8 f ++ r) rest
+      ∙ ap (λ (r : List ℕ). take 8 f ++ r) (joined f 8 _ _ e)
       ∙ take-append-drop 8 f
 
   -- ---- its offers
@@ -68,9 +67,10 @@ module _ (f : List ℕ) (a : Accepted f) where
   shape = accepted-shape f (headIn f) read
 
   few-bytes : length (between f) ≤ 65536
-  unfolding between
   few-bytes =
-      omega (arith, ltb-false 65536 (length f) (passed (programChecks (headIn f) f) a .0), length-cut f (lengthField f + 12) (length f - 64 - (lengthField f + 12)))
+      let short = ltb-false 65536 (length f) (passed (programChecks (headIn f) f) a .0) in
+      let front : List ℕ = take 8 f ++ regionOf f in
+      omega (arith, short, ap length file-parts, length-append (front ++ between f) (trailerOf f), length-append front (between f))
 
   offers-answered : each steppedOver (verdicts (headIn f) (blank (headIn f)) (offersIn f)) ≡ true
   unfolding sum

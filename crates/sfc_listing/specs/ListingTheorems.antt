@@ -90,7 +90,7 @@ lastLine t = lastOf (linesOf t)
 -- ---- the theorems
 
 pub record ListingTheorems : Type 0 where
-  -- A file is its preamble, its region, what the chunks are sought in, and its trailer.
+  -- A file is its preamble, its region, the bytes that chunks are looked for in, and its trailer.
   pub file-parts : (f : List ℕ) → Accepted f → take 8 f ++ regionOf f ++ between f ++ trailerOf f ≡ f
   -- The session is the one after the offers, in order, to a blank one.
   pub session-of-offers : (f : List ℕ) → sessionOfFile f ≡ afterAll (headIn f) (blank (headIn f)) (offersIn f)
@@ -102,10 +102,13 @@ pub record ListingTheorems : Type 0 where
   -- A line for each missing range, three before them, and the last.
   pub line-count : (f : List ℕ) → Accepted f
       → length (linesOf (listingOf f)) ≡ 4 + length (ranges (missing (headIn f .n) (sessionOfFile f .marks)))
-  -- The last line says what the hand-out answers, whatever memory of the right size it is lent: complete, 51, or 50.
+  -- The last line says what the hand-out answers, whatever memory of the right size it is lent: `complete` exactly where it gives
+  -- the content,
   pub last-line-complete : (f : List ℕ) → Accepted f → (l : Lent) → RoomIn f l
       → (lastLine (listingOf f) ≡ text "complete") ↔ (handedOut f l ≡ Complete (place (headIn f .size)))
+  -- `hash differs` exactly where it is refused by 51,
   pub last-line-hash-differs : (f : List ℕ) → Accepted f → (l : Lent) → RoomIn f l
       → (lastLine (listingOf f) ≡ text "hash differs") ↔ (handedOut f l ≡ NotHandedOut (reasonOf 51))
+  -- and `incomplete` exactly where it is refused by 50.
   pub last-line-incomplete : (f : List ℕ) → Accepted f → (l : Lent) → RoomIn f l
       → (lastLine (listingOf f) ≡ text "incomplete") ↔ (handedOut f l ≡ NotHandedOut (reasonOf 50))
