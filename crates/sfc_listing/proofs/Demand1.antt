@@ -1,11 +1,11 @@
 -- Demand 1 for the listing, proved (specs/Demand1). Assumes nothing.
 use Prim.Native.Nat.{ℕ, _≤_}
 use mathlib.Core.Path.{_≡_, refl, sym, ap, _∙_}
-use mathlib.Core.Bool.{true, false, cond}
+use mathlib.Core.Bool.{true, false}
 use mathlib.Core.List.{List, [], _∷_}
 use native.Mathlib.Omega.{arith}
 use borrow.Author.Tests.{ltb-false}
-use lib.Dec.{eqb, lit≤}
+use lib.Dec.{lit≤}
 use lib.ListN.{length}
 use Rattle.little.specs.Parts.{put}
 use Rattle.little.specs.Runs.{any}
@@ -21,10 +21,10 @@ use Rattle.sfc.specs.declared.answer.reason.Checked.the-variants.{Good, Refused
 use Rattle.sfc.specs.declared.answer.written.Written.{Written}
 use Rattle.sfc.specs.declared.answer.written.Written.the-variants.{Bytes, Refused}
 use Rattle.sfc_listing.specs.Text.{text}
-use Rattle.sfc_listing.specs.Listing.{sessionIn, lastWord, sessionText, programChecks, refusedText, listingOf, Desk, cleared, listingChecks, listed}
+use Rattle.sfc_listing.specs.Listing.{sessionIn, refusedWord, lastWord, sessionText, programChecks, refusedText, listingOf, Desk, cleared, listingChecks, listed}
 use Rattle.sfc_listing.specs.Demand1.{ListingDemand}
 use Rattle.sfc.proofs.Laws.{checkLaws}
-use Rattle.sfc_listing.proofs.FitLaws.{listing-fits}
+use Rattle.sfc_listing.proofs.FitLaws.{refused-long, listing-fits}
 
 -- the verdict in an answer
 abbrev writtenSeen : Written → Checked
@@ -61,14 +61,10 @@ file-refused f r e =
     (checkLaws .refused-all (λ (q : Reason). refusedText (numberOf q)) (programChecks h f) (sessionText h (sessionIn h f)) r e, n .0, n .1)
 
 -- the words differ, so the last one tells how the checks ended
-decided-good : (cs : List Check) → checked cs (λ (r : Reason). cond (eqb (numberOf r) 51) (text "hash differs") (text "incomplete")) (text "complete") ≡ text "complete" → verdict cs ≡ Good
+decided-good : (cs : List Check) → checked cs refusedWord (text "complete") ≡ text "complete" → verdict cs ≡ Good
 unfolding text
 decided-good [] e = refl
-decided-good ((true, k) ∷ cs) e = absurd (other (eqb (numberOf (reasonOf k)) 51) e)
-  where
-    other : (b : _) → cond b (text "hash differs") (text "incomplete") ≡ text "complete" → ⊥
-    other true z = omega (arith, ap length z)
-    other false z = omega (arith, ap length z)
+decided-good ((true, k) ∷ cs) e = absurd (omega (arith, refused-long (reasonOf k), ap length e))
 decided-good ((false, k) ∷ cs) e = decided-good cs e
 
 complete-only : (h : Head) (x : Session) → lastWord h x ≡ text "complete" → verdict (contentChecks h (x .store) (x .marks)) ≡ Good

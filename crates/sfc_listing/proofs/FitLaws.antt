@@ -17,7 +17,7 @@ use Rattle.sfc.specs.note.Ranges.{Range, ranges}
 use Rattle.sfc.specs.give.HandOut.{contentChecks}
 use Rattle.sfc_walk.specs.Walk.{chunksOf, walkOver}
 use Rattle.sfc_listing.specs.Text.{text, digits, decimal, hex, line}
-use Rattle.sfc_listing.specs.Listing.{between, sessionIn, uuidLine, shapeLine, countsLine, missingLine, missingLines, lastWord, startText, sessionText, programChecks, refusedText, listingOf}
+use Rattle.sfc_listing.specs.Listing.{between, sessionIn, uuidLine, shapeLine, countsLine, missingLine, missingLines, refusedWord, lastWord, startText, sessionText, programChecks, refusedText, listingOf}
 use Rattle.sfc.specs.declared.format.header.Head.{Head}
 use Rattle.sfc.specs.declared.answer.reason.Reason.{Reason}
 use Rattle.sfc.specs.declared.answer.reason.Checked.the-variants.{Good}
@@ -99,11 +99,18 @@ refused-short : (number : ℕ) → length (refusedText number) ≤ 29
 unfolding refusedText text
 refused-short number = ended (text "refused " ++ decimal number) 28 (named (text "refused ") number 8 refl)
 
+-- longer than the word for no refusal
+pub refused-long : (r : Reason) → (10 ≤ length (refusedWord r)) × (length (refusedWord r) ≤ 12)
+unfolding refusedWord text
+refused-long r = go (eqb (numberOf r) 51) refl
+  where
+    go : (b : Bool) → eqb (numberOf r) 51 ≡ b → (10 ≤ length (refusedWord r)) × (length (refusedWord r) ≤ 12)
+    go true e = rw e (omega arith, omega arith)
+    go false e = rw e (omega arith, omega arith)
+
 word-short : (h : Head) (x : Session) → length (lastWord h x) ≤ 12
 unfolding lastWord text
-word-short h x =
-    decided (contentChecks h (x .store) (x .marks)) (λ (r : Reason). cond (eqb (numberOf r) 51) (text "hash differs") (text "incomplete")) (text "complete") 12
-    (λ r. either (eqb (numberOf r) 51) (text "hash differs") (text "incomplete") 12 (omega arith) (omega arith)) (λ e. omega arith)
+word-short h x = decided (contentChecks h (x .store) (x .marks)) refusedWord (text "complete") 12 (λ r. refused-long r .1) (λ e. omega arith)
 
 -- ---- the whole
 
@@ -136,12 +143,12 @@ module _ (f : List ℕ) where
   abbrev head : Head
   head = headOf (regionOf f)
 
-  header-good : verdict (programChecks head f) ≡ Good → verdict (headerChecks f) ≡ Good
+  pub header-good : verdict (programChecks head f) ≡ Good → verdict (headerChecks f) ≡ Good
   header-good e =
       let limit : List Check = (ltb 32768 ((head .n + head .m) * head .s), 15) ∷ [] in
       checkLaws .front-good (headerChecks f) limit (checkLaws .all-passed (headerChecks f ++ limit) (checkLaws .passed (programChecks head f) e .1))
 
-  session-right : verdict (headerChecks f) ≡ Good → sessionWrong head (sessionIn head f) ≡ false
+  pub session-right : verdict (headerChecks f) ≡ Good → sessionWrong head (sessionIn head f) ≡ false
   unfolding sessionIn walkOver
   session-right g = walk-theorems .stays-lent head (blank head) (chunksOf head (between f)) (lentLaws .blank-right head (lentLaws .accepted-shape f head (good-read f g)))
 

@@ -3,5 +3,8 @@ mod LineLaws
 mod ReportLaws
 mod FileLaws
 mod FitLaws
+mod StepOver
+mod LastLine
 pub mod Demand1
+pub mod ListingTheorems
 pub mod OwnFile

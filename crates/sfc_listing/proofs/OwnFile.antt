@@ -8,13 +8,12 @@ use native.Mathlib.Decide.{ℕ-discrete}
 use native.Mathlib.Nat.{mul-le-mul, suc-mul}
 use native.Mathlib.Omega.{arith}
 use borrow.Author.Tests.{eq-eqb, ne-eqb, le-ltb, le-leb}
-use lib.Dec.{eqb}
 use lib.ListN.{length, getD, drop, replicate, length-replicate, getD-replicate, take-append-drop, drop-of-length-le}
 use lib.Seq.{take-at, drop-at, drop-drop, ext-getD}
 use Rattle.little.specs.Parts.{part}
 use Rattle.little.proofs.Laws.{partLaws, blockLaws}
 use Rattle.little.specs.Runs.{any, zeros, among}
-use Rattle.sfc.specs.answer.Numbers.{verdict, passes, numberOf}
+use Rattle.sfc.specs.answer.Numbers.{verdict, passes}
 use Rattle.sfc.specs.format.Header.{lengthField, acceptedHeader}
 use Rattle.sfc.specs.format.Chunk.{lengthChecks}
 use Rattle.sfc.specs.answer.Places.{place}
@@ -29,11 +28,10 @@ use Rattle.sfc.specs.writing.Writer.{Input, size, blocks, body, chunk, fileOf, 
 use Rattle.sfc.specs.demand.Demand2.{AllBelow, different, received, Lawful, RoomFor}
 use Rattle.sfc_walk.specs.Walk.{chunksIn, chunksOf, walkOver}
 use Rattle.sfc_listing.specs.Text.{text, line}
-use Rattle.sfc_listing.specs.Listing.{between, sessionIn, missingLines, lastWord, startText, sessionText, listingOf}
+use Rattle.sfc_listing.specs.Listing.{between, sessionIn, missingLines, refusedWord, lastWord, startText, sessionText, listingOf}
 use Rattle.sfc_listing.specs.Steps.{acceptedText}
 use Rattle.sfc_listing.specs.OwnFile.{OwnFile}
 use Rattle.sfc.specs.declared.format.header.Head.{Head}
-use Rattle.sfc.specs.declared.answer.reason.Reason.{Reason}
 use Rattle.sfc.specs.declared.answer.reason.Checked.the-variants.{Good}
 use Rattle.sfc.specs.declared.give.hand_out.HandedOut.the-variants.{Complete, Refused}
 use Rattle.sfc.proofs.Laws.{checkLaws, lentLaws, writtenLaws, countLaws}
@@ -104,7 +102,7 @@ module _ (h : Head) (x : Session) (full : x .marks ≡ replicate (h .n + h .m) 1
 
   complete-said : lastWord h x ≡ text "complete"
   unfolding lastWord
-  complete-said = checkLaws .good-all (λ (r : Reason). cond (eqb (numberOf r) 51) (text "hash differs") (text "incomplete")) (contentChecks h (x .store) (x .marks)) (text "complete") good
+  complete-said = checkLaws .good-all refusedWord (contentChecks h (x .store) (x .marks)) (text "complete") good
 
   all-said : sessionText h x ≡ startText (h .uuid) (h .n) (h .m) (h .size) (h .s) (h .n + h .m) 0 ++ line (text "complete")
   unfolding sessionText ranges missingLines

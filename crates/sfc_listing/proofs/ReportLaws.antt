@@ -2,12 +2,12 @@
 -- as the calls want it. Assumes nothing.
 use Prim.Native.Nat.{ℕ, _+_, _*_, _%_, _≤_}
 use mathlib.Core.Path.{_≡_, refl, sym, ap, _∙_}
-use mathlib.Core.Bool.{false, cond}
+use mathlib.Core.Bool.{false}
 use mathlib.Core.List.{List}
 use native.Mathlib.Omega.{arith}
 use native.Mathlib.Nat.{mul-le-mul}
 use borrow.Author.Tests.{eq-eqb, ne-eqb, le-ltb}
-use lib.Dec.{eqb, ltb}
+use lib.Dec.{ltb}
 use lib.ListN.{length, take, drop}
 use lib.Seq.{take-at}
 use Rattle.little.specs.Parts.{put}
@@ -24,7 +24,7 @@ use Rattle.sfc.specs.note.Ranges.{ranges, boundsFor, listRanges}
 use Rattle.sfc.specs.give.HandOut.{Rebuilding, contentChecks, handOut}
 use Rattle.sfc_walk.specs.Walk.{chunksOf, Walk, walkOf, walkOver}
 use Rattle.sfc_listing.specs.Text.{text}
-use Rattle.sfc_listing.specs.Listing.{Desk, deskOf, lastWord, sessionText}
+use Rattle.sfc_listing.specs.Listing.{Desk, deskOf, refusedWord, lastWord, sessionText}
 use Rattle.sfc_listing.specs.Lines.{wordOf, sessionLines, Printed}
 use Rattle.sfc_listing.specs.Steps.{Ready}
 use Rattle.sfc.specs.declared.format.header.Head.{Head}
@@ -101,24 +101,20 @@ module _ (h : Head) (store marks : List ℕ) (l : Lent) (right : rebuildWrong h 
   told : (v : Checked) → handOutSeen answer ≡ v → verdict (contentChecks h store marks) ≡ v
   told v f = checkLaws .tells handOutSeen NotHandedOut (Complete (place (h .size))) (λ q. refl) refl (contentChecks h store marks) v (ap handOutSeen (sym answer-is) ∙ f)
 
-  -- the word for a refusal
-  abbrev word : Reason → List ℕ
-  word r = cond (eqb (numberOf r) 51) (text "hash differs") (text "incomplete")
-
-  refused-word : (r : Reason) → answer ≡ NotHandedOut r → lastWord h (sessionOf store marks noTallies) ≡ word r
+  refused-word : (r : Reason) → answer ≡ NotHandedOut r → lastWord h (sessionOf store marks noTallies) ≡ refusedWord r
   unfolding lastWord
-  refused-word r f = checkLaws .refused-all word (contentChecks h store marks) (text "complete") r (told (Refused r) (ap handOutSeen f))
+  refused-word r f = checkLaws .refused-all refusedWord (contentChecks h store marks) (text "complete") r (told (Refused r) (ap handOutSeen f))
 
   pub word-whole : (p : BytePlace) → answer ≡ Complete p → wordOf Whole ≡ lastWord h (sessionOf store marks noTallies)
   unfolding wordOf lastWord
-  word-whole p f = sym (checkLaws .good-all word (contentChecks h store marks) (text "complete") (told Good (ap handOutSeen f)))
+  word-whole p f = sym (checkLaws .good-all refusedWord (contentChecks h store marks) (text "complete") (told Good (ap handOutSeen f)))
 
   pub word-differs : (r : Reason) (k : ℕ) → answer ≡ NotHandedOut r → k ≡ numberOf r → k ≡ 51 → wordOf HashDiffers ≡ lastWord h (sessionOf store marks noTallies)
-  unfolding wordOf
+  unfolding wordOf refusedWord
   word-differs r k f g q = rw (refused-word r f, eq-eqb (numberOf r) 51 (sym g ∙ q))
 
   pub word-few : (r : Reason) (k : ℕ) → answer ≡ NotHandedOut r → k ≡ numberOf r → (k ≡ 51 → ⊥) → wordOf Incomplete ≡ lastWord h (sessionOf store marks noTallies)
-  unfolding wordOf
+  unfolding wordOf refusedWord
   word-few r k f g q = rw (refused-word r f, ne-eqb (numberOf r) 51 (λ z. q (g ∙ z)))
 
 -- ---- the memory

@@ -54,10 +54,13 @@ unfoldable pub missingLines : List Range → List ℕ
 missingLines [] = []
 missingLines (r ∷ rs) = missingLine r ++ missingLines rs
 
--- the hand-out's answer: complete, 51, or too few
+-- what the last line says of a refusal: 51, or too few
+unfoldable pub refusedWord : Reason → List ℕ
+refusedWord r = cond (eqb (numberOf r) 51) (text "hash differs") (text "incomplete")
+
+-- and of the hand-out
 unfoldable pub lastWord : Head → Session → List ℕ
-lastWord h x =
-    checked (contentChecks h (x .store) (x .marks)) (λ (r : Reason). cond (eqb (numberOf r) 51) (text "hash differs") (text "incomplete")) (text "complete")
+lastWord h x = checked (contentChecks h (x .store) (x .marks)) refusedWord (text "complete")
 
 unfoldable pub sessionText : Head → Session → List ℕ
 sessionText h x =
