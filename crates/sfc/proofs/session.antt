@@ -10,3 +10,4 @@ pub mod EndLaws
 pub mod HeldLaws
 pub mod RightLaws
 pub mod DifferentLaws
+pub mod CopyTheorems

@@ -1,7 +1,9 @@
--- A session: tallies, marks, every 71 (Lent), what an offer makes of them (Session), histories of offers, and what is proved of them (SessionTheorems).
+-- A session: tallies, marks, every 71 (Lent), what an offer makes of them (Session), histories of offers, and what is proved of them
+-- (SessionTheorems; of copies, CopyTheorems).
 pub mod Tallies
 pub mod Marks
 pub mod Lent
 pub mod Session
 pub mod History
 pub mod SessionTheorems
+pub mod CopyTheorems
