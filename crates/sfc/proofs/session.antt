@@ -11,3 +11,4 @@ pub mod HeldLaws
 pub mod RightLaws
 pub mod DifferentLaws
 pub mod CopyTheorems
+pub mod OrderTheorems

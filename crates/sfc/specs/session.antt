@@ -1,5 +1,5 @@
 -- A session: tallies, marks, every 71 (Lent), what an offer makes of them (Session), histories of offers, and what is proved of them
--- (SessionTheorems; of copies, CopyTheorems).
+-- (SessionTheorems; of copies, CopyTheorems; of their order, OrderTheorems).
 pub mod Tallies
 pub mod Marks
 pub mod Lent
@@ -7,3 +7,4 @@ pub mod Session
 pub mod History
 pub mod SessionTheorems
 pub mod CopyTheorems
+pub mod OrderTheorems
