@@ -22,7 +22,7 @@ use Rattle.sfc.specs.session.Tallies.{sum, total, tallyOf, tallyFull, co
 use Rattle.sfc.specs.session.Session.{Session, blank, mark, blockOf, sessionWrong, markChecks, welcomed, verdictOf, after}
 use Rattle.sfc.specs.session.History.{afterAll, verdicts}
 use Rattle.sfc.specs.session.SessionTheorems.{ShortOf43, isRefusal}
-use Rattle.sfc.specs.session.OrderTheorems.{Differing, copyFirst, copyLast, countedAll, TellsOrder, OrderTheorems}
+use Rattle.sfc.specs.session.OrderTheorems.{Differing, copyFirst, copyLast, countedAll, TellsOrder, OfChunkAlone, OrderTheorems}
 use Rattle.sfc.specs.writing.Writer.{compression, erasureFor, chunkBytes}
 use Rattle.sfc.specs.declared.format.header.Head.{Head}
 use Rattle.sfc.specs.declared.session.tallies.Tallies.{Tallies}
@@ -39,6 +39,7 @@ use Rattle.sfc.proofs.session.SessionLaws.{offered-session, lent-refuse
 use Rattle.sfc.proofs.session.HistoryLaws.{after-tallies, total-counted, not-full, perm-length, many-offers}
 use Rattle.sfc.proofs.session.OfferLaws.{one-offer}
 use Rattle.sfc.proofs.session.CountLaws.{tallies-count}
+use Rattle.sfc.proofs.session.TallyMarks.{fresh-counts, conflicts-count}
 use Rattle.sfc.proofs.session.RightLaws.{zero-at, blank-right}
 use Rattle.sfc.proofs.writing.ChunkBack.{Made, index-back, payload-back, chunk-good}
 
@@ -178,7 +179,7 @@ module _ (h : Head) (u : length (h .uuid) ≡ 16) (w : shapeWrong (h .size) (h .
 
 -- ---- the tallies of 30 to 40
 
-module _ (h : Head) (k : ℕ) (low : 30 ≤ k) (high : k ≤ 40) where
+module _ (h : Head) (k : ℕ) (alone : OfChunkAlone k) where
   -- whether a chunk's own checks refuse it by k
   unfoldable byItself : Checked → Bool
   byItself Good = false
@@ -199,8 +200,8 @@ module _ (h : Head) (k : ℕ) (low : 30 ≤ k) (high : k ≤ 40) where
   -- a session's verdict refuses by k just where the chunk's own checks do
   marks-others : (a b e : Bool) (v w : Verdict) → isRefusal k v ≡ false → isRefusal k w ≡ false
       → isRefusal k (cond a (Refused Barred) (cond b (Refused Conflict) (cond e v w))) ≡ false
-  marks-others true b e v w p q = ne-eqb 42 k (λ z. omega arith)
-  marks-others false true e v w p q = ne-eqb 41 k (λ z. omega arith)
+  marks-others true b e v w p q = ne-eqb 42 k (λ z. omega (arith, alone .1))
+  marks-others false true e v w p q = ne-eqb 41 k (λ z. omega (arith, alone .1))
   marks-others false false true v w p q = p
   marks-others false false false v w p q = q
 
@@ -210,8 +211,13 @@ module _ (h : Head) (k : ℕ) (low : 30 ≤ k) (high : k ≤ 40) where
     where
       go : (v : Checked) → verdict (chunkChecks h c) ≡ v → isRefusal k (verdictOf h x c) ≡ byItself (verdict (chunkChecks h c))
       go (Wrong q) e = rw e (ap (isRefusal k) (past-two h x c r f ∙ refused-then Refused (chunkChecks h c) (markChecks h x c) (welcomed h x c) q e))
-      go Good e = rw e (ap (isRefusal k) (past-all h x c (record { lent = r; room = f; whole = e })) ∙ marks-others (eqb (mark x (indexOf c)) 2) (eqb (mark x (indexOf c)) 1 && not (same (blockOf h x (indexOf c)) (payloadOf c))) (eqb (mark x (indexOf c)) 0)
-          (Fresh (number (indexOf c)) (place (indexOf c * h .s))) (Repeat (number (indexOf c)) (place (indexOf c * h .s))) refl refl)
+      go Good e =
+          let barred = eqb (mark x (indexOf c)) 2 in
+          let other = eqb (mark x (indexOf c)) 1 && not (same (blockOf h x (indexOf c)) (payloadOf c)) in
+          let absent = eqb (mark x (indexOf c)) 0 in
+          let i = number (indexOf c) in
+          let p = place (indexOf c * h .s) in
+          rw e (ap (isRefusal k) (past-all h x c (record { lent = r; room = f; whole = e })) ∙ marks-others barred other absent (Fresh i p) (Repeat i p) refl refl)
 
   -- what one refusal adds to the tally of k: 1, or 0 where the tallies have no such place
   abbrev unit : Tallies → ℕ
@@ -244,7 +250,7 @@ module _ (h : Head) (k : ℕ) (low : 30 ≤ k) (high : k ≤ 40) where
       go false e =
           let f = or-false (eqb n 71) (eqb n 43) e in
           let q : (30 ≤ n) × (n ≤ 42) = o (eqb-false n 71 (f .0)) (eqb-false n 43 (f .1)) in (
-            getD-set-other (t .refused) (n - 30) (k - 30) (tallyOf t n + 1) 0 (λ z. d (omega (arith, q .0))) ∙ omega arith,
+            getD-set-other (t .refused) (n - 30) (k - 30) (tallyOf t n + 1) 0 (λ z. d (omega (arith, q .0, alone .0))) ∙ omega arith,
             length-set (t .refused) (n - 30) (tallyOf t n + 1),
           )
 
@@ -252,7 +258,7 @@ module _ (h : Head) (k : ℕ) (low : 30 ≤ k) (high : k ≤ 40) where
   refusal-adds t n o = go (ℕ-discrete n k)
     where
       go : Dec (n ≡ k) → Adds t (countedRefusal t n) (cond (eqb n k) (unit t) 0)
-      go (yes e) = rw (eq-eqb n k e, e, counts-one t k low (omega arith)) (raises t)
+      go (yes e) = rw (eq-eqb n k e, e, counts-one t k (alone .0) (omega (arith, alone .1))) (raises t)
       go (no d) = rw (ne-eqb n k d) (leaves t n d o)
 
   verdict-adds : (t : Tallies) (v : Verdict) → ((r : Reason) → v ≡ Refused r → numberOf r ≢ 71 → numberOf r ≢ 43 → (30 ≤ numberOf r) × (numberOf r ≤ 42))
@@ -285,20 +291,22 @@ wrong-stays h x (c ∷ cs) e =
     ap (λ (y : Session). afterAll h y cs) (sym (offered-session h x c) ∙ ap (λ o. o .session) (sym (lent-refused h x c e)))
     ∙ wrong-stays h x cs e
 
-thirties-order-free : (h : Head) (x : Session) (cs ds : List (List ℕ)) → List·Permᴰ cs ds → ShortOf43 x (length cs) → (k : ℕ) → 30 ≤ k → k ≤ 40
+thirties-order-free : (h : Head) (x : Session) (cs ds : List (List ℕ)) → List·Permᴰ cs ds → ShortOf43 x (length cs) → (k : ℕ) → OfChunkAlone k
     → tallyOf (afterAll h x cs .tallies) k ≡ tallyOf (afterAll h x ds .tallies) k
-thirties-order-free h x cs ds p s k low high = go (sessionWrong h x) refl
+thirties-order-free h x cs ds p s k alone = go (sessionWrong h x) refl
   where
     go : (b : Bool) → sessionWrong h x ≡ b → tallyOf (afterAll h x cs .tallies) k ≡ tallyOf (afterAll h x ds .tallies) k
     go true e = ap (λ (y : Session). tallyOf (y .tallies) k) (wrong-stays h x cs e ∙ sym (wrong-stays h x ds e))
     go false e =
-        tally-counts h k low high x cs e s
-        ∙ ap (λ (n : ℕ). tallyOf (x .tallies) k + n) (counts-same h k low high (cond (ltb (k - 30) (length (x .tallies .refused))) 1 0) p)
-        ∙ sym (tally-counts h k low high x ds e (omega (arith, perm-length p)))
+        tally-counts h k alone x cs e s
+        ∙ ap (λ (n : ℕ). tallyOf (x .tallies) k + n) (counts-same h k alone (cond (ltb (k - 30) (length (x .tallies .refused))) 1 0) p)
+        ∙ sym (tally-counts h k alone x ds e (omega (arith, perm-length p)))
 
 pub order-theorems : OrderTheorems
 order-theorems = record {
   order-tells = order-tells;
   order-example = λ h u w ec ee i inside p q. order-example h u w ec ee i inside p q;
   thirties-order-free = thirties-order-free;
+  fresh-counts = fresh-counts;
+  conflicts-count = conflicts-count;
 }
