@@ -69,7 +69,7 @@ pub record OrderTheorems : Type 0 where
   pub thirties-order-free : (h : Head) (x : Session) (cs ds : List (List ℕ)) → List·Permᴰ cs ds → ShortOf43 x (length cs) → (k : ℕ) → OfChunkAlone k
       → tallyOf (afterAll h x cs .tallies) k ≡ tallyOf (afterAll h x ds .tallies) k
   -- in a session that began blank fresh counts the indices that are held or barred by now, and 41 those that are barred: these two
-  -- tallies follow from the marks, which no order changes; only which offer was fresh, or refused by 41, is told by what came before
+  -- tallies follow from the marks, which short of 43 no order changes; only which offer was fresh, or refused by 41, is told by what came before
   pub fresh-counts : (h : Head) (cs : List (List ℕ))
       → afterAll h (blank h) cs .tallies .fresh ≡ heldCount (afterAll h (blank h) cs .marks) + barredCount (afterAll h (blank h) cs .marks)
   pub conflicts-count : (h : Head) (cs : List (List ℕ)) → tallyOf (afterAll h (blank h) cs .tallies) 41 ≡ barredCount (afterAll h (blank h) cs .marks)
