@@ -1,4 +1,4 @@
--- Laws of marks, tallies and offers; histories; what a session of an accepted header is (RightLaws).
+-- Laws of marks, tallies and offers; histories; what a session of an accepted header is (RightLaws); copies and order.
 pub mod MarkLaws
 pub mod TallyLaws
 pub mod SessionLaws
@@ -10,3 +10,6 @@ pub mod EndLaws
 pub mod HeldLaws
 pub mod RightLaws
 pub mod DifferentLaws
+pub mod TallyMarks
+pub mod CopyTheorems
+pub mod OrderTheorems

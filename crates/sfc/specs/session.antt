@@ -1,5 +1,6 @@
 -- A session: tallies, marks, every 71 (Lent) and what is known once it lets something through (Right), what an offer makes of them
--- (Session), histories of offers, and what is proved of them (SessionTheorems).
+-- (Session), histories of offers, and what is proved of them (SessionTheorems; of copies, CopyTheorems; of their order,
+-- OrderTheorems).
 pub mod Tallies
 pub mod Marks
 pub mod Lent
@@ -7,3 +8,5 @@ pub mod Right
 pub mod Session
 pub mod History
 pub mod SessionTheorems
+pub mod CopyTheorems
+pub mod OrderTheorems

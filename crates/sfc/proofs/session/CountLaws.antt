@@ -71,7 +71,7 @@ refusal-keeps f g t k = go (eqb k 71 || eqb k 43)
     go true = refl
     go false = g t _
 
-fresh-step : (t : Tallies) (v : Verdict) → counted t v .fresh ≡ t .fresh + cond (isFresh v) 1 0
+pub fresh-step : (t : Tallies) (v : Verdict) → counted t v .fresh ≡ t .fresh + cond (isFresh v) 1 0
 unfolding counted
 fresh-step t (Fresh i p) = refl
 fresh-step t (Repeat i p) = omega arith
@@ -107,7 +107,7 @@ refused-one t n k a b o l = go (eqb n 71 || eqb n 43) refl
         at-k r (yes f) = rw (eq-eqb n k f, ← f) (getD-set-same (t .refused) (n - 30) (tallyOf t n + 1) 0 (omega arith))
         at-k r (no f) = rw (ne-eqb n k f) (getD-set-other (t .refused) (n - 30) (k - 30) (tallyOf t n + 1) 0 (λ g. f (omega arith)) ∙ omega arith)
 
-refused-step : (t : Tallies) (v : Verdict) (k : ℕ) → 30 ≤ k → k ≤ 42 → ((r : Reason) → v ≡ Refused r → Offered (numberOf r)) → length (t .refused) ≡ 13
+pub refused-step : (t : Tallies) (v : Verdict) (k : ℕ) → 30 ≤ k → k ≤ 42 → ((r : Reason) → v ≡ Refused r → Offered (numberOf r)) → length (t .refused) ≡ 13
     → (tallyOf (counted t v) k ≡ tallyOf t k + cond (isRefusal k v) 1 0) × (length (counted t v .refused) ≡ 13)
 unfolding counted
 refused-step t (Fresh i p) k a b o l = (omega arith, l)

@@ -266,7 +266,7 @@ kept-all h x (c ∷ cs) s =
     let n : total (after h x c .tallies) ≤ total (x .tallies) + 1 = rw (after-tallies h x c) (total-counted (x .tallies) (verdictOf h x c)) in
     kept-all h (after h x c) cs (omega arith) ∙ ap (λ (k : Kept). keepAll h k cs) (kept-after h x c (not-full (x .tallies) (omega arith)))
 
-perm-length : {cs ds : List (List ℕ)} → List·Permᴰ cs ds → length cs ≡ length ds
+pub perm-length : {cs ds : List (List ℕ)} → List·Permᴰ cs ds → length cs ≡ length ds
 perm-length List·Permᴰ·nil = refl
 perm-length (List·Permᴰ·cons e d) = ap suc (perm-length d)
 perm-length (List·Permᴰ·swap e f) = refl
