@@ -10,13 +10,14 @@ use Rattle.sfc.specs.format.Header.{lengthField}
 use Rattle.sfc.specs.format.Chunk.{chunkLength, lengthChecks, measureChecks}
 use Rattle.sfc.specs.writing.Writer.{Input, size, blocks, body, payload, chunk, fileOf, headFor}
 use Rattle.sfc.specs.demand.Demand2.{Lawful, AllBelow, received}
-use Rattle.sfc.specs.Laws.{CheckLaws, LentLaws, MeasureLaws, CountLaws, WrittenLaws}
+use Rattle.sfc.specs.Laws.{CheckLaws, LentLaws, MeasureLaws, OfferLaws, CountLaws, WrittenLaws}
 use Rattle.sfc.proofs.answer.CheckLaws.{passed, all-passed, good-passes, passes-good, front-good, good-then, refused-then, good-all, refused-all, tells}
 use Rattle.sfc.proofs.answer.RefusalLaws.{leaves, ends}
 use Rattle.sfc.proofs.format.ChunkLaws.{measured, unmeasured, front-there}
 use Rattle.sfc.proofs.format.LimitLaws.{wanted-holds}
 use Rattle.sfc.proofs.session.MarkLaws.{right-shape, right-marks}
-use Rattle.sfc.proofs.session.SessionLaws.{number-in, right-lent}
+use Rattle.sfc.proofs.session.SessionLaws.{number-in, right-lent, past-two}
+use Rattle.sfc.proofs.session.HistoryLaws.{total-all, not-full}
 use Rattle.sfc.proofs.session.RightLaws.{accepted-shape, blank-right}
 use Rattle.sfc.proofs.session.DifferentLaws.{held-different}
 use Rattle.sfc.proofs.note.MissingLaws.{unheld-count}
@@ -55,6 +56,9 @@ lentLaws = record {
 
 pub measureLaws : MeasureLaws
 measureLaws = record { measured = measured; unmeasured = unmeasured; front-there = front-there }
+
+pub offerLaws : OfferLaws
+offerLaws = record { past-two = past-two; total-all = total-all; not-full = not-full }
 
 pub countLaws : CountLaws
 countLaws = record { unheld-count = unheld-count; held-different = held-different }

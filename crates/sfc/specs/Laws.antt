@@ -1,21 +1,23 @@
 -- What the floors above may rely on beside the calls' promises and the theorems: how lists of checks decide, what is known once 71
--- lets something through, how a chunk is measured, and what is known of a file that our writer wrote. Statements, proved in
+-- lets something through, how a chunk is measured and offered, and what is known of a file that our writer wrote. Statements, proved in
 -- proofs/Laws.antt; no other law of this crate is seen above.
 use Prim.Native.Nat.{ℕ, _+_, _-_, _*_, _≤_, _<_}
 use mathlib.Core.Path.{_≡_}
 use mathlib.Core.Bool.{true, false, cond}
-use mathlib.Core.List.{List, [], _∷_, _++_}
+use mathlib.Core.List.{List, _++_}
 use lib.ListN.{length, getD}
 use Rattle.little.specs.Parts.{put}
 use Rattle.little.specs.Runs.{among}
 use Rattle.sfc.specs.answer.Numbers.{Check, checked, verdict, passes, Passed, NumbersAre, numberOf}
 use Rattle.sfc.specs.format.Limits.{wantedBlocks}
 use Rattle.sfc.specs.format.Header.{lengthField, acceptedHeader, readHeader}
-use Rattle.sfc.specs.format.Chunk.{chunkLength, measureChecks, measureChunk}
+use Rattle.sfc.specs.format.Chunk.{chunkLength, chunkChecks, measureChecks, measureChunk}
 use Rattle.sfc.specs.session.Marks.{isHeld, heldCount}
 use Rattle.sfc.specs.session.Lent.{shapeWrong, marksWrong, lentWrong}
 use Rattle.sfc.specs.session.Right.{RightShape, RightMarks, RightLent}
-use Rattle.sfc.specs.session.Session.{blank, sessionWrong}
+use Rattle.sfc.specs.session.Tallies.{total, tallyFull}
+use Rattle.sfc.specs.session.Session.{Session, blank, sessionWrong, markChecks, welcomed, verdictOf}
+use Rattle.sfc.specs.session.History.{afterAll}
 use Rattle.sfc.specs.note.Missing.{unheldFrom}
 use Rattle.sfc.specs.writing.Writer.{Input, size, blocks, body, chunk, fileOf, headFor}
 use Rattle.sfc.specs.demand.Demand1.{Leaves, Ends}
@@ -25,6 +27,8 @@ use Rattle.sfc.specs.declared.answer.reason.Checked.{Checked}
 use Rattle.sfc.specs.declared.answer.reason.Checked.the-variants.{Good, Refused}
 use Rattle.sfc.specs.declared.format.chunk.ChunkMeasured.the-variants.{Length, Refused as NotMeasured}
 use Rattle.sfc.specs.declared.format.header.Head.{Head}
+use Rattle.sfc.specs.declared.session.tallies.Tallies.{Tallies}
+use Rattle.sfc.specs.declared.session.offer.Verdict.the-variants.{Refused as NotTaken}
 
 -- ---- lists of checks
 
@@ -73,6 +77,16 @@ pub record MeasureLaws : Type 0 where
   pub measured : (h : Head) (b : List ℕ) (k : ℕ) → measureChunk h b ≡ Length k → (passes (measureChecks h b) ≡ true) × (k ≡ chunkLength b)
   pub unmeasured : (h : Head) (b : List ℕ) (r : Reason) → measureChunk h b ≡ NotMeasured r → passes (measureChecks h b) ≡ false
   pub front-there : (h : Head) (b : List ℕ) → passes (measureChecks h b) ≡ true → chunkLength b ≤ length b
+
+-- ---- offers
+
+pub record OfferLaws : Type 0 where
+  -- past 71 and 43 the chunk and its mark decide
+  pub past-two : (h : Head) (x : Session) (c : List ℕ) → sessionWrong h x ≡ false → tallyFull (x .tallies) ≡ false
+      → verdictOf h x c ≡ checked (chunkChecks h c ++ markChecks h x c) NotTaken (welcomed h x c)
+  -- each offer adds one to the tallies at most, so that fewer than 43's number never fill them
+  pub total-all : (h : Head) (x : Session) (cs : List (List ℕ)) → total (afterAll h x cs .tallies) ≤ total (x .tallies) + length cs
+  pub not-full : (t : Tallies) → total t < 4294967295 → tallyFull t ≡ false
 
 -- ---- marks that are counted
 

@@ -9,7 +9,7 @@ use borrow.Author.Tests.{ne-eqb, le-ltb}
 use lib.Dec.{ltb, eqb}
 use lib.ListN.{length, length-append}
 use Rattle.little.specs.Runs.{any}
-use Rattle.little.proofs.TestLaws.{or-false}
+use Rattle.little.proofs.Laws.{testLaws}
 use Rattle.sfc.specs.answer.Numbers.{Check, numberOf, reasonOf}
 use Rattle.sfc.specs.answer.Places.{place}
 use Rattle.sfc.specs.session.Marks.{heldCount, barredCount}
@@ -34,7 +34,7 @@ Plain w = any (λ (c : ℕ). eqb c 10) w ≡ false
 both : (xs ys : List ℕ) → Plain xs → Plain ys → Plain (xs ++ ys)
 unfolding any
 both [] ys p q = q
-both (x ∷ xs) ys p q = let o = or-false (eqb x 10) (any (λ (c : ℕ). eqb c 10) xs) p in rw (o .0) (both xs ys (o .1) q)
+both (x ∷ xs) ys p q = let o = testLaws .or-false (eqb x 10) (any (λ (c : ℕ). eqb c 10) xs) p in rw (o .0) (both xs ys (o .1) q)
 
 either : (b : Bool) (xs ys : List ℕ) → Plain xs → Plain ys → Plain (cond b xs ys)
 either true xs ys p q = p
@@ -78,7 +78,7 @@ and-named front word v p q = both (front ++ word) (decimal v) (both front word p
 first-line : (w t : List ℕ) → Plain w → linesOf (line w ++ t) ≡ w ∷ linesOf t
 unfolding linesOf longer any
 first-line [] t p = refl
-first-line (c ∷ w) t p = let o = or-false (eqb c 10) (any (λ (c : ℕ). eqb c 10) w) p in rw (o .0, first-line w t (o .1))
+first-line (c ∷ w) t p = let o = testLaws .or-false (eqb c 10) (any (λ (c : ℕ). eqb c 10) w) p in rw (o .0, first-line w t (o .1))
 
 last-of : (ls : List (List ℕ)) (w : List ℕ) → lastOf (ls ++ (w ∷ [])) ≡ w
 unfolding lastOf

@@ -3,7 +3,6 @@ mod LineLaws
 mod ReportLaws
 mod FileLaws
 mod FitLaws
-mod StepOver
 mod LastLine
 pub mod Demand1
 pub mod ListingTheorems

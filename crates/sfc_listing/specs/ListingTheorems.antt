@@ -4,9 +4,9 @@
 use Prim.Native.Nat.{ℕ, _+_, _*_, _≤_}
 use mathlib.Core.Path.{_≡_}
 use mathlib.Core.Logic.{_↔_}
-use mathlib.Core.Bool.{Bool, true, cond, _&&_}
+use mathlib.Core.Bool.{true, cond}
 use mathlib.Core.List.{List, [], _∷_, _++_}
-use lib.Dec.{eqb, leb}
+use lib.Dec.{eqb}
 use lib.ListN.{length, take, drop}
 use Rattle.sfc.specs.answer.Numbers.{verdict, numberOf, reasonOf}
 use Rattle.sfc.specs.answer.Places.{place}
@@ -18,13 +18,13 @@ use Rattle.sfc.specs.note.Missing.{missing}
 use Rattle.sfc.specs.note.Ranges.{ranges}
 use Rattle.sfc.specs.give.HandOut.{handOut}
 use Rattle.sfc_walk.specs.Walk.{chunksOf, lengthOfAll}
+use Rattle.sfc_walk.specs.WalkTheorems.{steppedOver, each}
 use Rattle.sfc_listing.specs.Text.{text}
 use Rattle.sfc_listing.specs.Listing.{between, sessionIn, programChecks, listingOf}
 use Rattle.sfc.specs.declared.format.header.Head.{Head}
 use Rattle.sfc.specs.declared.answer.reason.Reason.{Reason}
 use Rattle.sfc.specs.declared.answer.reason.Checked.the-variants.{Good}
-use Rattle.sfc.specs.declared.session.offer.Verdict.{Verdict}
-use Rattle.sfc.specs.declared.session.offer.Verdict.the-variants.{Fresh, Repeat, Refused}
+use Rattle.sfc.specs.declared.session.offer.Verdict.the-variants.{Refused}
 use Rattle.sfc.specs.declared.give.hand_out.HandedOut.{HandedOut}
 use Rattle.sfc.specs.declared.give.hand_out.HandedOut.the-variants.{Complete, Refused as NotHandedOut}
 
@@ -47,16 +47,6 @@ offersIn f = chunksOf (headIn f) (between f)
 
 abbrev pub afterOffers : List ℕ → List ℕ
 afterOffers f = drop (lengthOfAll (offersIn f)) (between f)
-
--- an answer after which the next chunk is offered
-abbrev pub steppedOver : Verdict → Bool
-steppedOver (Fresh i p) = true
-steppedOver (Repeat i p) = true
-steppedOver (Refused r) = leb 33 (numberOf r) && leb (numberOf r) 42
-
-unfoldable pub each : (Verdict → Bool) → List Verdict → Bool
-each test [] = true
-each test (v ∷ vs) = test v && each test vs
 
 -- memory for the hand-out of its session
 pub record RoomIn (f : List ℕ) (l : Lent) : Type 0 where

@@ -1,4 +1,7 @@
--- Another crate sees the theorems; the laws of a step and of the loop are this crate's own.
+-- Another crate sees the theorems; the laws of a step, of the loop, of what a walk finds and of how that is answered are this
+-- crate's own.
 pub mod WalkTheorems
 mod StepLaws
 mod LoopLaws
+mod FoundLaws
+mod StepOver

@@ -1,19 +1,34 @@
 -- What is proved of the walk: statements, of any head and any bytes. Proved in proofs/WalkTheorems.antt.
-use Prim.Native.Nat.{ℕ, _-_, _<_, _≤_}
+use Prim.Native.Nat.{ℕ, _+_, _-_, _<_, _≤_}
 use mathlib.Core.Path.{_≡_}
-use mathlib.Core.Bool.{true, false}
+use mathlib.Core.Bool.{Bool, true, false, _&&_}
 use mathlib.Core.List.{List, [], _∷_, _++_}
+use lib.Dec.{leb}
 use lib.ListN.{length, take, drop}
-use Rattle.sfc.specs.answer.Numbers.{passes}
+use Rattle.sfc.specs.answer.Numbers.{passes, numberOf}
 use Rattle.sfc.specs.format.Chunk.{chunkLength, measureChecks}
-use Rattle.sfc.specs.session.Session.{Session, sessionWrong}
-use Rattle.sfc.specs.session.History.{afterAll}
+use Rattle.sfc.specs.session.Tallies.{total}
+use Rattle.sfc.specs.session.Session.{Session, sessionWrong, verdictOf}
+use Rattle.sfc.specs.session.History.{afterAll, verdicts}
 use Rattle.sfc.specs.declared.format.header.Head.{Head}
+use Rattle.sfc.specs.declared.answer.reason.Reason.{Reason}
+use Rattle.sfc.specs.declared.session.offer.Verdict.{Verdict}
+use Rattle.sfc.specs.declared.session.offer.Verdict.the-variants.{Fresh, Repeat, Refused}
 use Rattle.sfc_walk.specs.Walk.{chunksIn, chunksOf, lengthOfAll}
 
 unfoldable pub concat : List (List ℕ) → List ℕ
 concat [] = []
 concat (c ∷ cs) = c ++ concat cs
+
+-- an answer after which the next chunk is offered
+abbrev pub steppedOver : Verdict → Bool
+steppedOver (Fresh i p) = true
+steppedOver (Repeat i p) = true
+steppedOver (Refused r) = leb 33 (numberOf r) && leb (numberOf r) 42
+
+unfoldable pub each : (Verdict → Bool) → List Verdict → Bool
+each test [] = true
+each test (v ∷ vs) = test v && each test vs
 
 pub record WalkTheorems : Type 0 where
   -- The bound means nothing: from the bytes' own length on, a larger one changes nothing.
@@ -29,3 +44,11 @@ pub record WalkTheorems : Type 0 where
       → chunksIn most h b ≡ take (chunkLength b) b ∷ chunksIn (most - 1) h (drop (chunkLength b) b)
   -- 71 has nothing against the session that offers leave, where it had nothing before.
   pub stays-lent : (h : Head) (x : Session) (cs : List (List ℕ)) → sessionWrong h x ≡ false → sessionWrong h (afterAll h x cs) ≡ false
+  -- Then, and short of 43, each chunk is answered fresh, repeat or 33 to 42, and what is left after the last of them, be it nothing,
+  -- would be refused by 30, 31 or 32.
+  pub chunks-answered : (h : Head) (x : Session) (b : List ℕ) → sessionWrong h x ≡ false → total (x .tallies) + length b < 4294967295
+      → each steppedOver (verdicts h x (chunksOf h b)) ≡ true
+  pub end-answered : (h : Head) (x : Session) (b : List ℕ) → sessionWrong h x ≡ false → total (x .tallies) + length b < 4294967295
+      → (r : Reason)
+      × (verdictOf h (afterAll h x (chunksOf h b)) (drop (lengthOfAll (chunksOf h b)) b) ≡ Refused r)
+      × (30 ≤ numberOf r) × (numberOf r ≤ 32)

@@ -2,15 +2,15 @@
 use Prim.Native.Nat.{ℕ, zero, suc, _+_, _-_, _*_, _≤_}
 use mathlib.Core.Path.{_≡_, refl, sym, ap, ap₂, _∙_}
 use mathlib.Core.Bool.{Bool, true, false, cond, not, _||_}
-use mathlib.Core.List.{List, [], _∷_, _++_, append-nil}
+use mathlib.Core.List.{List, [], _∷_, _++_}
 use native.Mathlib.Omega.{arith}
 use borrow.Author.Tests.{ltb-false}
 use lib.Dec.{ltb}
-use lib.ListN.{length, take, drop, drop-of-length-le}
+use lib.ListN.{length, take, drop}
 use lib.Seq.{take-all, take-take}
 use Rattle.little.specs.Parts.{part}
 use Rattle.little.specs.Fields.{le}
-use Rattle.little.proofs.Laws.{partLaws, testLaws, putLaws}
+use Rattle.little.proofs.Laws.{partLaws, testLaws}
 use Rattle.sfc.specs.format.Bytes.{padded, beforeZero}
 use Rattle.little.specs.Runs.{zeros}
 use Rattle.sfc.specs.answer.Numbers.{verdict, checked}

@@ -14,12 +14,10 @@ use lib.Seq.{drop-cons, take-add}
 use Rattle.little.specs.Fields.{Bytes, le, bytesOf}
 use Rattle.little.specs.Parts.{part}
 use Rattle.little.specs.Runs.{zeros, same}
-use Rattle.little.proofs.FieldLaws.{laws}
-use Rattle.little.proofs.PartLaws.{part-part}
-use Rattle.little.proofs.RunLaws.{same-refl, same-eq, same-differ, same-apart}
-use Rattle.little.proofs.TestLaws.{or-false, and-both}
+use Rattle.little.proofs.Laws.{littleLaws, partLaws, sameLaws, testLaws}
 use Rattle.blake3.specs.Tree.{hash}
-use Rattle.sfc.specs.answer.Numbers.{passes, numberOf}
+use Rattle.blake3.proofs.Laws.{hashLaws}
+use Rattle.sfc.specs.answer.Numbers.{passes, numberOf, Passed}
 use Rattle.sfc.specs.answer.Places.{number, place}
 use Rattle.sfc.specs.format.Bytes.{standsAt}
 use Rattle.sfc.specs.format.Chunk.{chunkMagic, endMarker, indexOf, typeOf, payloadLength, payloadOf, chunkLength, typeFor, chunkChecks}
@@ -37,10 +35,9 @@ use Rattle.sfc.specs.declared.answer.places.BlockNumber.{BlockNumber}
 use Rattle.sfc.specs.declared.answer.places.BytePlace.{BytePlace}
 use Rattle.sfc.specs.declared.session.offer.Verdict.{Verdict}
 use Rattle.sfc.specs.declared.session.offer.Verdict.the-variants.{Fresh, Repeat, Refused}
-use Rattle.sfc.proofs.answer.CheckLaws.{Passed, passed, all-passed, front-good, passes-good, good-passes, let-through}
+use Rattle.sfc.proofs.answer.CheckLaws.{passed, all-passed, front-good, passes-good, good-passes, let-through}
 use Rattle.sfc.proofs.session.SessionLaws.{verdict-repeat, verdict-conflict}
 use Rattle.sfc.proofs.session.OfferLaws.{one-offer}
-use Rattle.sfc.proofs.writing.LengthLaws.{length-hash}
 
 -- ---- what stands at a place, and one piece after the other
 
@@ -48,7 +45,7 @@ stands-part : (c : List ℕ) (at : ℕ) (ys : List ℕ) → at + length ys ≤ l
 unfolding standsAt
 stands-part c at [] l e = refl
 stands-part c at (y ∷ ys) l e =
-    let a = and-both (eqb (getD c at 0) y) (standsAt c (suc at) ys) e in
+    let a = testLaws .and-both (eqb (getD c at 0) y) (standsAt c (suc at) ys) e in
     let i : at < length c = omega arith in
     rw (drop-cons c at 0 i) (ap₂ _∷_ (eqb-true (getD c at 0) y (a .0)) (stands-part c (suc at) ys (omega arith) (a .1)))
 
@@ -83,7 +80,7 @@ module _ (h : Head) (c : List ℕ) (u : length (h .uuid) ≡ 16) (g : Passing h 
 
   upto-32 : take 32 c ≡ chunkMagic ++ h .uuid ++ bytesOf 4 (indexOf c) ++ bytesOf 4 (typeFor (h .n) (indexOf c)) ++ bytesOf 4 (h .s)
   upto-32 =
-      let field : (at : ℕ) → at + 4 ≤ 84 → bytesOf 4 (le c at 4) ≡ part c at 4 = λ at l. laws 4 .bytes-back c (g .bytes) at (omega (arith, there)) in
+      let field : (at : ℕ) → at + 4 ≤ 84 → bytesOf 4 (le c at 4) ≡ part c at 4 = λ at l. littleLaws 4 .bytes-back c (g .bytes) at (omega (arith, there)) in
       let t : typeOf c ≡ typeFor (h .n) (indexOf c) =
       eqb-true (typeOf c) (typeFor (h .n) (indexOf c)) (not-false (eqb (typeOf c) (typeFor (h .n) (indexOf c))) (tests .1 .1 .1 .1 .1 .1 .1 .1 .0)) in
       grow c _ (bytesOf 4 (h .s)) 28 4
@@ -94,7 +91,7 @@ module _ (h : Head) (c : List ℕ) (u : length (h .uuid) ≡ 16) (g : Passing h 
 
   upto-48 : take 48 c ≡ chunkMagic ++ h .uuid ++ bytesOf 4 (indexOf c) ++ bytesOf 4 (typeFor (h .n) (indexOf c)) ++ bytesOf 4 (h .s) ++ (h .compression ∷ h .erasure ∷ []) ++ zeros 14
   upto-48 =
-      let o = or-false (not (eqb (getD c 32 0) (h .compression))) (not (eqb (getD c 33 0) (h .erasure))) (tests .1 .1 .1 .1 .1 .1 .1 .1 .1 .1 .0) in
+      let o = testLaws .or-false (not (eqb (getD c 32 0) (h .compression))) (not (eqb (getD c 33 0) (h .erasure))) (tests .1 .1 .1 .1 .1 .1 .1 .1 .1 .1 .0) in
       let a : getD c 32 0 ≡ h .compression = eqb-true (getD c 32 0) (h .compression) (not-false (eqb (getD c 32 0) (h .compression)) (o .0)) in
       let b : getD c 33 0 ≡ h .erasure = eqb-true (getD c 33 0) (h .erasure) (not-false (eqb (getD c 33 0) (h .erasure)) (o .1)) in
       grow c _ (zeros 14) 34 14
@@ -110,11 +107,11 @@ module _ (h : Head) (c : List ℕ) (u : length (h .uuid) ≡ 16) (g : Passing h 
 
   upto-hash : take (80 + payloadLength c) c ≡ front ++ hash front
   upto-hash =
-      let l : 48 + payloadLength c + length (hash front) ≤ 84 + payloadLength c = omega (arith, length-hash front) in
+      let l : 48 + payloadLength c + length (hash front) ≤ 84 + payloadLength c = omega (arith, hashLaws .length-hash front) in
       let e : not (standsAt c (48 + payloadLength c) (hash front)) ≡ false =
       ap (λ (b : List ℕ). not (standsAt c (48 + payloadLength c) (hash b))) (sym upto-payload) ∙ tests .1 .1 .1 .1 .0 in
       let s : part c (48 + payloadLength c) 32 ≡ hash front =
-      ap (λ (n : ℕ). part c (48 + payloadLength c) n) (sym (length-hash front)) ∙ text-at (48 + payloadLength c) (hash front) l e in
+      ap (λ (n : ℕ). part c (48 + payloadLength c) n) (sym (hashLaws .length-hash front)) ∙ text-at (48 + payloadLength c) (hash front) l e in
       let k : 48 + payloadLength c + 32 ≡ 80 + payloadLength c = omega arith in
       rw k at (grow c front (hash front) (48 + payloadLength c) 32 upto-payload s)
 
@@ -127,7 +124,7 @@ module _ (h : Head) (c : List ℕ) (u : length (h .uuid) ≡ 16) (g : Passing h 
 
   -- the payload lies in the chunk
   pub payload-in : payloadOf c ≡ part (wholeChunk c) 48 (h .s)
-  payload-in = ap (λ (n : ℕ). part c 48 n) long ∙ sym (part-part c 0 (84 + payloadLength c) 48 (h .s) (omega (arith, long)) (omega (arith, there)))
+  payload-in = ap (λ (n : ℕ). part c 48 n) long ∙ sym (partLaws .part-part c 0 (84 + payloadLength c) 48 (h .s) (omega (arith, long)) (omega (arith, there)))
 
 as-written : (h : Head) (i : ℕ) (payload : List ℕ) → h .compression ≡ compression → h .erasure ≡ erasureFor (h .m)
     → chunkUnder h i payload ≡ chunkBytes (h .uuid) (h .n) (h .m) (h .s) i payload
@@ -162,11 +159,11 @@ module _ (h : Head) (y : Session) (i p : ℕ) (c d : List ℕ) (u : length (h .u
 
   copy-repeats : payloadOf c ≡ payloadOf d → verdictOf h y d ≡ Repeat (number i) (place p)
   copy-repeats e =
-      let s : same (blockOf h y (indexOf d)) (payloadOf d) ≡ true = ap (λ (l : List ℕ). same l (payloadOf d)) (kept ∙ e) ∙ same-refl (payloadOf d) in
+      let s : same (blockOf h y (indexOf d)) (payloadOf d) ≡ true = ap (λ (l : List ℕ). same l (payloadOf d)) (kept ∙ e) ∙ sameLaws .same-refl (payloadOf d) in
       verdict-repeat h y d w held s ∙ ap₂ (λ (j q : ℕ). Repeat (number j) (place q)) id (ap (λ (j : ℕ). j * h .s) id ∙ sym ep)
 
   other-conflicts : payloadOf c ≢ payloadOf d → verdictOf h y d ≡ Refused Conflict
-  other-conflicts n = verdict-conflict h y d w held (same-differ (blockOf h y (indexOf d)) (payloadOf d) (λ e. n (sym kept ∙ e)))
+  other-conflicts n = verdict-conflict h y d w held (sameLaws .same-differ (blockOf h y (indexOf d)) (payloadOf d) (λ e. n (sym kept ∙ e)))
 
   tells-copies : TellsCopies h y i p c d
   tells-copies = go (same (payloadOf c) (payloadOf d)) refl
@@ -176,14 +173,14 @@ module _ (h : Head) (y : Session) (i p : ℕ) (c d : List ℕ) (u : length (h .u
 
       go : (t : Bool) → same (payloadOf c) (payloadOf d) ≡ t → TellsCopies h y i p c d
       go true s =
-          let e = same-eq (payloadOf c) (payloadOf d) s in
+          let e = sameLaws .same-eq (payloadOf c) (payloadOf d) s in
           let q : wholeChunk d ≡ wholeChunk c = sym (same-bytes h c d u g k ij e) in
           record {
             a-repeat = ((λ v. q), (λ z. copy-repeats e));
             a-conflict = ((λ v. absurd (no-repeat Conflict _ _ (sym v ∙ copy-repeats e))), (λ n. absurd (n q)));
           }
       go false s =
-          let n : payloadOf c ≢ payloadOf d = same-apart (payloadOf c) (payloadOf d) s in
+          let n : payloadOf c ≢ payloadOf d = sameLaws .same-apart (payloadOf c) (payloadOf d) s in
           let a : wholeChunk d ≢ wholeChunk c = λ z. n (same-payload h c d u g k ij (sym z)) in
           record {
             a-repeat = ((λ v. absurd (no-repeat Conflict _ _ (sym (other-conflicts n) ∙ v))), (λ z. absurd (a z)));

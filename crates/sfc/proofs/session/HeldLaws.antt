@@ -1,9 +1,9 @@
 -- What is held, in the words of the code: V, the shape that the code's theorems ask for, the length of what is decoded.
 -- Assumes nothing.
 use Prim.Native.Nat.{ℕ, zero, suc, _+_, _*_, _/_, _%_, _<_, _≤_}
-use mathlib.Core.Path.{_≡_, refl, ap, _∙_}
+use mathlib.Core.Path.{_≡_, ap, _∙_}
 use mathlib.Core.Bool.{Bool, true, false, cond}
-use mathlib.Core.List.{List, [], _∷_, _++_}
+use mathlib.Core.List.{List, _++_}
 use native.Mathlib.Omega.{arith}
 use borrow.Author.Tests.{eq-eqb}
 use lib.Dec.{eqb}
@@ -13,10 +13,9 @@ use Rattle.little.specs.Fields.{Bytes}
 use Rattle.little.specs.Parts.{part, block}
 use Rattle.little.proofs.Laws.{blockLaws, partLaws}
 use Rattle.cauchy.specs.Code.{joined, wordBytes, Held}
-use Rattle.cauchy.specs.Decode.{held, count, holding, rank, foundWords, decode, decoded}
+use Rattle.cauchy.specs.Decode.{held, rank, foundWords, decode, decoded}
 use Rattle.cauchy.specs.Theorems.{Shape}
 use Rattle.cauchy.proofs.Laws.{codeLaws}
-use Rattle.sfc.specs.session.Marks.{isHeld, heldCount}
 use Rattle.sfc.specs.session.Lent.{lentWrong}
 use Rattle.sfc.specs.give.HandOut.{contentOf}
 use Rattle.sfc.specs.declared.format.header.Head.{Head}

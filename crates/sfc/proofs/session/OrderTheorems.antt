@@ -12,8 +12,7 @@ use lib.ListN.{length, getD, set, length-set}
 use lib.Seq.{getD-set-same, getD-set-other, set-out}
 use Rattle.little.specs.Parts.{block}
 use Rattle.little.specs.Runs.{same}
-use Rattle.little.proofs.TestLaws.{or-false}
-use Rattle.little.proofs.RunLaws.{same-refl, same-differ}
+use Rattle.little.proofs.Laws.{testLaws, sameLaws}
 use Rattle.sfc.specs.answer.Numbers.{verdict, passes, numberOf}
 use Rattle.sfc.specs.answer.Places.{number, place}
 use Rattle.sfc.specs.format.Chunk.{indexOf, payloadOf, chunkChecks}
@@ -76,7 +75,7 @@ module _ (h : Head) (x : Session) (c d : List ℕ) (r : sessionWrong h x ≡ fal
   repeat-second : verdictOf h one c ≡ Repeat (number (indexOf c)) (place (indexOf c * h .s))
   repeat-second =
       verdict-repeat h one c (record { lent = one-right; room = not-full (one .tallies) (omega (arith, less-room h x c)); whole = passes-good (chunkChecks h c) (g .passes-first) })
-      held (ap (λ (l : List ℕ). same l (payloadOf c)) kept ∙ same-refl (payloadOf c))
+      held (ap (λ (l : List ℕ). same l (payloadOf c)) kept ∙ sameLaws .same-refl (payloadOf c))
 
   -- d, in a session that holds the payload of c
   conflict-in : (y : Session) → sessionWrong h y ≡ false → total (y .tallies) < 4294967295 → mark y (indexOf c) ≡ 1 → blockOf h y (indexOf c) ≡ payloadOf c
@@ -84,7 +83,7 @@ module _ (h : Head) (x : Session) (c d : List ℕ) (r : sessionWrong h x ≡ fal
   conflict-in y w t m b =
       verdict-conflict h y d (record { lent = w; room = not-full (y .tallies) t; whole = passes-good (chunkChecks h d) (g .passes-second) })
       (ap (mark y) (g .one-index) ∙ m)
-      (same-differ (blockOf h y (indexOf d)) (payloadOf d) (λ e. g .payloads (sym b ∙ sym (ap (blockOf h y) (g .one-index)) ∙ e)))
+      (sameLaws .same-differ (blockOf h y (indexOf d)) (payloadOf d) (λ e. g .payloads (sym b ∙ sym (ap (blockOf h y) (g .one-index)) ∙ e)))
 
   conflict-third : verdictOf h (after h one c) d ≡ Refused Conflict
   conflict-third =
@@ -248,7 +247,7 @@ module _ (h : Head) (k : ℕ) (alone : OfChunkAlone k) where
       go : (b : Bool) → (eqb n 71 || eqb n 43) ≡ b → Adds t (cond b t (raised t n)) 0
       go true e = (omega arith, refl)
       go false e =
-          let f = or-false (eqb n 71) (eqb n 43) e in
+          let f = testLaws .or-false (eqb n 71) (eqb n 43) e in
           let q : (30 ≤ n) × (n ≤ 42) = o (eqb-false n 71 (f .0)) (eqb-false n 43 (f .1)) in (
             getD-set-other (t .refused) (n - 30) (k - 30) (tallyOf t n + 1) 0 (λ z. d (omega (arith, q .0, alone .0))) ∙ omega arith,
             length-set (t .refused) (n - 30) (tallyOf t n + 1),

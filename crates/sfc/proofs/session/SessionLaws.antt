@@ -11,7 +11,6 @@ use Rattle.little.specs.Parts.{part, put, block, putBlock}
 use Rattle.little.proofs.Laws.{putLaws, partLaws, blockLaws, testLaws}
 use Rattle.little.specs.Runs.{zeros, same}
 use Rattle.sfc.specs.answer.Numbers.{NumbersAre, Check, checked, verdict, numberOf, reasonOf}
-use Rattle.sfc.specs.session.Marks.{marksKnown}
 use Rattle.sfc.specs.session.Lent.{marksWrong, lentWrong}
 use Rattle.sfc.specs.format.Chunk.{indexOf, payloadLength, payloadOf, chunkLength, chunkChecks}
 use Rattle.sfc.specs.answer.Places.{number, place}

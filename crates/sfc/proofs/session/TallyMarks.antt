@@ -11,7 +11,7 @@ use lib.Dec.{eqb, lit≤}
 use lib.ListN.{length, getD, set, length-set, List·getD-eq-default}
 use lib.Seq.{getD-set-same, getD-set-other, ext-getD}
 use Rattle.little.specs.Runs.{zeros}
-use Rattle.little.proofs.PartLaws.{below-or}
+use Rattle.little.proofs.Laws.{testLaws}
 use Rattle.cauchy.specs.Decode.{held, count}
 use Rattle.sfc.specs.answer.Numbers.{numberOf}
 use Rattle.sfc.specs.format.Chunk.{indexOf, payloadOf}
@@ -62,7 +62,7 @@ module _ (h : Head) (x y : Session) (i k : ℕ) (b : List ℕ) (o : ChangesOne h
   mark-there =
       ⊎-elim (λ (a : i < length (x .marks)). a)
       (λ (a : length (x .marks) ≤ i). absurd (omega (arith, o .new-mark, List·getD-eq-default (y .marks) 0 {n = i} (omega (arith, o .marks-length)))))
-      (below-or i (length (x .marks)))
+      (testLaws .below-or i (length (x .marks)))
 
   one-set : y .marks ≡ set (x .marks) i k
   one-set = ext-getD 0 (y .marks) (set (x .marks) i k) (o .marks-length ∙ sym (length-set (x .marks) i k)) (λ j u. at j (ℕ-discrete j i))

@@ -1,10 +1,10 @@
 -- A lent list that is filled from its front, piece after piece. Assumes nothing.
 use Prim.Native.Nat.{ℕ, _+_, _≤_}
 use mathlib.Core.Path.{_≡_, refl, sym, ap, ap₂, _∙_}
-use mathlib.Core.List.{List, [], _++_, append-assoc, append-nil}
+use mathlib.Core.List.{List, [], _++_, append-nil}
 use native.Mathlib.Omega.{arith}
 use lib.ListN.{length, take, drop, length-append, drop-of-length-le, take-append-drop}
-use lib.Seq.{take-append-seam, take-append-add, drop-append-seam, drop-append-add, drop-drop, take-all, take-at, length-take-le}
+use lib.Seq.{take-all, take-at, length-take-le}
 use Rattle.little.specs.Parts.{part, put}
 use Rattle.little.specs.Fields.{bytesOf, putLe}
 use Rattle.little.proofs.Laws.{putLaws, partLaws, byteLaws, littleLaws}

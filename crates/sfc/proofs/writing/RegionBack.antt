@@ -7,8 +7,8 @@ use native.Mathlib.Nat.{mod-eq-of-lt}
 use native.Mathlib.Omega.{arith}
 use borrow.Author.Tests.{leb-false, lt-leb}
 use lib.Dec.{eqb}
-use lib.ListN.{length, getD, take, drop, length-append, length-replicate}
-use lib.Seq.{drop-drop, drop-at, take-at, getD-drop}
+use lib.ListN.{length, drop, length-append, length-replicate}
+use lib.Seq.{take-at}
 use Rattle.little.specs.Parts.{part}
 use Rattle.little.specs.Fields.{le, bytesOf}
 use Rattle.little.proofs.Laws.{littleLaws, byteLaws, testLaws, partLaws}

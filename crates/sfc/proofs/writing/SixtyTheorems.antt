@@ -7,13 +7,13 @@ use mathlib.Core.List.{List, [], _∷_, _++_, append-nil}
 use lib.Dec.{eqb, lit≤}
 use lib.ListN.{length}
 use Rattle.little.proofs.Laws.{testLaws}
-use Rattle.sfc.specs.answer.Numbers.{Check, checked, verdict, passes, numberOf}
+use Rattle.sfc.specs.answer.Numbers.{Check, verdict, passes, numberOf}
 use Rattle.sfc.specs.format.Limits.{lengthWrong}
 use Rattle.sfc.specs.format.Header.{regionOf, headOf, regionChecks, headerChecks, refusedHeader, acceptedHeader, readHeader}
 use Rattle.sfc.specs.writing.Writer.{Input, preamble, region, body, trailer, outgrown, nameWrong, hasReserved, inputWrong}
 use Rattle.sfc.specs.writing.SixtyTheorems.{ownCause, headerMade, isGood, SixtyTheorems}
 use Rattle.sfc.specs.declared.answer.reason.Reason.{Reason}
-use Rattle.sfc.specs.declared.answer.reason.Checked.the-variants.{Good, Refused}
+use Rattle.sfc.specs.declared.answer.reason.Checked.the-variants.{Refused}
 use Rattle.sfc.specs.declared.format.header.HeaderRead.{HeaderRead}
 use Rattle.sfc.proofs.answer.CheckLaws.{tells}
 use Rattle.sfc.proofs.session.SessionLaws.{number-in}

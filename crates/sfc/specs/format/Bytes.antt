@@ -1,10 +1,10 @@
 -- The words in which the container's layouts are written down: tests over lists, texts at a place, names. Assumes nothing:
 -- these are definitions.
 use Prim.Native.Nat.{ℕ, zero, suc, _-_, _/_, _%_, _^_}
-use mathlib.Core.Bool.{Bool, true, false, _&&_, _||_}
+use mathlib.Core.Bool.{Bool, true, _&&_}
 use mathlib.Core.List.{List, [], _∷_, _++_}
 use lib.Dec.{eqb}
-use lib.ListN.{length, getD, replicate}
+use lib.ListN.{length, getD}
 use Rattle.little.specs.Runs.{zeros}
 
 -- whether the bytes ys stand in s from place `at` on

@@ -4,7 +4,7 @@ use Prim.Native.Nat.{ℕ, _+_, _*_}
 use mathlib.Core.Bool.{Bool, cond, not, _&&_}
 use mathlib.Core.List.{List, [], _∷_, _++_}
 use lib.Dec.{eqb}
-use lib.ListN.{length, getD, set}
+use lib.ListN.{getD, set}
 use Rattle.little.specs.Parts.{block, putBlock}
 use Rattle.little.specs.Runs.{zeros, same}
 use Rattle.sfc.specs.answer.Numbers.{Check, checked, numberOf}

@@ -1,7 +1,7 @@
 -- `sfc_walk::offer_chunks` meets its contract. The loop's invariant: the chunks that are left make of the session at hand what all
 -- of them make of the one it began as. Assumes nothing.
 use Prim.Native.Nat.{_<_}
-use mathlib.Core.Path.{_≡_, refl, sym, ap, _∙_}
+use mathlib.Core.Path.{_≡_, refl, sym, _∙_}
 use native.Mathlib.Omega.{arith}
 use lib.ListN.{length}
 use lib.Seq.{length-take-le}

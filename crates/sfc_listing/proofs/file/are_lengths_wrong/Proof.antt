@@ -1,6 +1,5 @@
 -- `sfc_listing::file::are_lengths_wrong` meets its contract, length by length. Assumes nothing.
 use mathlib.Core.Path.{refl}
-use borrow.Author.Needs.{needs}
 use Rattle.sfc_listing.specs.Listing.{lengthsWrong}
 use Rattle.sfc_listing.proofs.file.are_lengths_wrong.Statement.{statement}
 use Rattle.sfc_listing.proofs.file.are_lengths_wrong.Tie as tie

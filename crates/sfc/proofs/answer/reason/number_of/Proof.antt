@@ -1,5 +1,5 @@
 -- `sfc::answer::reason::number_of` meets its contract, by the row that the reason has. Assumes nothing.
-use mathlib.Core.Path.{_≡_, sym, ap, _∙_}
+use mathlib.Core.Path.{sym, ap, _∙_}
 use borrow.Author.Needs.{needs}
 use Rattle.sfc.specs.answer.Numbers.{numberOf}
 use Rattle.sfc.proofs.answer.reason.number_of.Statement.{statement}
