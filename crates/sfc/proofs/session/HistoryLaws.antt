@@ -258,13 +258,6 @@ pub not-full : (t : Tallies) → total t < 4294967295 → tallyFull t ≡ false
 unfolding tallyFull
 not-full t l = lt-leb 4294967295 (total t) l
 
--- an offer adds one to the tallies at most
-pub total-all : (h : Head) (x : Session) (cs : List (List ℕ)) → total (afterAll h x cs .tallies) ≤ total (x .tallies) + length cs
-unfolding afterAll
-total-all h x [] = omega arith
-total-all h x (c ∷ cs) =
-    omega (arith, total-all h (after h x c) cs, ap total (after-tallies h x c), total-counted (x .tallies) (verdictOf h x c))
-
 -- short of 43, store and marks of a session are those of its chunks alone
 pub kept-all : (h : Head) (x : Session) (cs : List (List ℕ)) → ShortOf43 x (length cs) → keptOf (afterAll h x cs) ≡ keepAll h (keptOf x) cs
 unfolding afterAll keepAll
@@ -384,7 +377,8 @@ tallies-with h x y (d ∷ ds) k e f s =
     (after-tallies h y d ∙ ap₂ counted f (sym v) ∙ counts-swap (x .tallies) k (verdictOf h x d) ∙ ap (λ (t : Tallies). countedRefusal t k) (sym (after-tallies h x d)))
     (omega arith)
 
-total-all : (h : Head) (x : Session) (cs : List (List ℕ)) → total (afterAll h x cs .tallies) ≤ total (x .tallies) + length cs
+-- an offer adds one to the tallies at most
+pub total-all : (h : Head) (x : Session) (cs : List (List ℕ)) → total (afterAll h x cs .tallies) ≤ total (x .tallies) + length cs
 unfolding afterAll
 total-all h x [] = omega arith
 total-all h x (c ∷ cs) =
