@@ -1,7 +1,8 @@
--- The definitions and statements of the crate. To be believed: Code, Decode, Calls, Theorems, Worked. To be skipped: inner.
+-- The definitions and statements of the crate. To be believed: Code, Decode, Calls, Answers, Theorems, Worked. To be skipped: inner.
 pub mod Code
 pub mod Decode
 pub mod Calls
+pub mod Answers
 pub mod Theorems
 pub mod Worked
 pub mod inner
