@@ -1,5 +1,4 @@
--- The table of numbers (specs/answer/Numbered.antt): four computed tests. That each reason has a row is proved with `listed_number`,
--- whose arms are all reasons. Assumes nothing.
+-- The table of numbers (specs/answer/Numbered.antt): four computed tests, the last over all cases of `Reason`. Assumes nothing.
 use mathlib.Core.Path.{_≡_, refl, sym, ap, _∙_}
 use borrow.Author.Tests.{eqb-true}
 use lib.Dec.{eqb}
@@ -10,7 +9,7 @@ use Rattle.sfc.specs.declared.answer.reason.Reason.{Reason}
 use Rattle.sfc.proofs.answer.reason.Reason.{parts, as-values, make, eta}
 use Rattle.sfc.proofs.answer.CaseLaws.{caseOf, case-one, in-each}
 
--- the fourth test, of each case of `Reason`, compares which case comes back
+-- which case a number leads to, compared with the case that has it; so each reason is in the chain of rows that `reasonOf` goes through
 pub reason-back : (r : Reason) → reasonOf (numberOf r) ≡ r
 reason-back r =
     let c = as-values r in
