@@ -2,9 +2,10 @@
 use crate::blake3::hex;
 use crate::code::{decode, recovery};
 
+/// Document 01's numbers, and 0 where there is none.
 const DONE: u64 = 0;
-const BAD_SHAPE: u64 = 1;
-const TOO_FEW: u64 = 2;
+const BAD_SHAPE: u64 = 71;
+const TOO_FEW: u64 = 50;
 
 /// The first bytes of a linear congruential generator.
 fn content(count: usize) -> Vec<u8> {
@@ -141,7 +142,7 @@ fn recoveries() {
         let good = is_in_bounds(n, m, s) && k < m && n * s == 12 && s == 4;
         let data: Vec<Vec<u8>> = content(12).chunks(4).map(<[u8]>::to_vec).collect();
         let (answer, out) = if good { (DONE, recovery(m, k, &data)) } else { (BAD_SHAPE, vec![0xEE; 4]) };
-        println!("recovery {n} {m} {s} {k}: {answer:08x} {:08x}", digest(1, numbers_of(&out)));
+        println!("recovery {n} {m} {s} {k}: {answer} {:08x}", digest(1, numbers_of(&out)));
     }
 }
 
@@ -151,7 +152,7 @@ fn rebuilds() {
     for (n, m, s) in shapes {
         let good = is_in_bounds(n, m, s) && n + m == 5 && (n + m) * s == 20 && m * s == 8;
         let answer = if good { DONE } else { BAD_SHAPE };
-        println!("rebuild {n} {m} {s}: {answer:08x} {:08x}", digest(1, numbers_of(&[0xEE; 8])));
+        println!("rebuild {n} {m} {s}: {answer} {:08x}", digest(1, numbers_of(&[0xEE; 8])));
     }
 }
 

@@ -1,12 +1,13 @@
 -- The running hash (document 01, "BLAKE3, unkeyed" and number 72): what feeding and finishing make of any record, a forged
 -- one too; a customer who feeds only records that these calls gave him may skip `withByte` and `withBytes`, for `AnyCut` says
--- what comes of them. Assumes nothing: these are definitions, and the statements of three theorems.
+-- what comes of them. Assumes nothing: these are definitions, and the statements of four theorems.
 use mathlib.Core.Path.{_≡_}
 use mathlib.Core.Bool.{cond}
 use Prim.Native.Nat.{ℕ, _+_, _%_, _^_, _<_, _≤_}
 use mathlib.Core.List.{List, [], _∷_, _++_}
 use lib.Dec.{ltb}
 use lib.ListN.{length, set, replicate}
+use Rattle.little.specs.Said.{Said, refused, says, Apart}
 use Rattle.blake3.specs.Compress.{bytesOfWords}
 use Rattle.blake3.specs.Tree.{pieceLength, hash}
 use Rattle.blake3.specs.Stack.{stackWords, settled, ending}
@@ -18,14 +19,17 @@ use Rattle.blake3.specs.declared.running.Answer.the-variants.{Done, Refu
 use Rattle.blake3.specs.declared.running.Reason.{Reason}
 use Rattle.blake3.specs.declared.running.Reason.the-variants.{RunningHash}
 
--- document 01's number of a refusal
+-- document 01's number of a refusal, and back: the hash has this one row of the table
 abbrev pub numberOf : Reason → ℕ
 numberOf RunningHash = 72
 
--- the number of an answer: of a refusal its reason's, and 0 where there is none
-abbrev pub answerNumber : Answer → ℕ
-answerNumber Done = 0
-answerNumber (Refused why) = numberOf why
+abbrev pub reasonOf : ℕ → Reason
+reasonOf k = RunningHash
+
+-- what an answer says: that it is done, or its number
+abbrev pub answerSaid : Answer → Said
+answerSaid Done = says "done" []
+answerSaid (Refused why) = refused (numberOf why)
 
 -- the most bytes that may be fed
 abbrev pub mostFed : ℕ
@@ -51,9 +55,9 @@ fresh = record { piece = replicate pieceLength 0; fed = 0; stack = replicate sta
 -- feeding: refused with number 72 where the bytes would be too many in all, and the record stays as it stood
 unfoldable pub fedWith : Running → List ℕ → Fed
 fedWith r xs =
-    let refused : Fed = record { answer = Refused RunningHash; state = r } in
+    let left : Fed = record { answer = Refused (reasonOf 72); state = r } in
     let taken : Fed = record { answer = Done; state = withBytes r xs } in
-    cond (ltb mostFed (r .fed + length xs)) refused taken
+    cond (ltb mostFed (r .fed + length xs)) left taken
 
 -- the answer of a feed in place, beside what then stands in the record
 abbrev pub afterFeed : Answer → Running → Fed
@@ -61,7 +65,7 @@ afterFeed answer state = record { answer = answer; state = state }
 
 -- a finish refused with number 72: zeros beside it
 abbrev pub refusedFinish : Finished
-refusedFinish = record { answer = Refused RunningHash; hash = replicate 32 0 }
+refusedFinish = record { answer = Refused (reasonOf 72); hash = replicate 32 0 }
 
 -- finishing: refused with number 72, and zeros, where the count is above what can have been fed
 unfoldable pub finished : Running → Finished
@@ -77,14 +81,20 @@ hashedTwo first second =
     cond (ltb mostFed (length first + length second)) refusedFinish done
 
 -- What number 72 is given for, of any record and any part, and that it changes nothing; and of two parts hashed at once.
--- Proved in proofs/Refusals.antt
+-- Where it is not given the answer is that it is done. Proved in proofs/Refusals.antt
 pub record Refusals (r : Running) (xs : List ℕ) : Type 0 where
-  pub feed-number : answerNumber (fedWith r xs .answer) ≡ cond (ltb mostFed (r .fed + length xs)) 72 0
+  pub feed-says : answerSaid (fedWith r xs .answer) ≡ cond (ltb mostFed (r .fed + length xs)) (refused 72) (says "done" [])
   pub feed-leaves : mostFed < r .fed + length xs → fedWith r xs .state ≡ r
-  pub finish-number : answerNumber (finished r .answer) ≡ cond (ltb mostFed (r .fed)) 72 0
+  pub finish-says : answerSaid (finished r .answer) ≡ cond (ltb mostFed (r .fed)) (refused 72) (says "done" [])
   pub finish-zeros : mostFed < r .fed → finished r .hash ≡ replicate 32 0
-  pub two-number : (ys : List ℕ) → answerNumber (hashedTwo xs ys .answer) ≡ cond (ltb mostFed (length xs + length ys)) 72 0
+  pub two-says : (ys : List ℕ) → answerSaid (hashedTwo xs ys .answer) ≡ cond (ltb mostFed (length xs + length ys)) (refused 72) (says "done" [])
   pub two-zeros : (ys : List ℕ) → mostFed < length xs + length ys → hashedTwo xs ys .hash ≡ replicate 32 0
+
+-- The number and the reason lead to each other, and two answers that say the same are the same. Proved in proofs/Refusals.antt
+pub record Numbered : Type 0 where
+  pub number-back : numberOf (reasonOf 72) ≡ 72
+  pub reason-back : (why : Reason) → reasonOf (numberOf why) ≡ why
+  pub apart : Apart answerSaid
 
 -- For a loop that feeds: a record that was fed xs has that many bytes more, and a fresh one ends with the hash of xs. Proved in
 -- proofs/AnyCut.antt

@@ -1,13 +1,18 @@
 -- The number under which an answer of `cauchy` goes out, and what a call then leaves. Assumes nothing: these are definitions.
 use Prim.Native.Nat.{ℕ}
 use mathlib.Core.List.{List}
+use Rattle.little.specs.Said.{Said, refused, says}
 use Rattle.cauchy.specs.Calls.{Recovered, Rebuilt}
+use Rattle.cauchy.specs.Answers.{answerSaid}
 use Rattle.cauchy.specs.declared.Answer.{Answer}
 
+-- document 01's number of a refusal, and 0 where there is none
+unfoldable pub saidNumber : Said → ℕ
+saidNumber (refused k) = k
+saidNumber (says word values) = 0
+
 unfoldable pub numberOf : Answer → ℕ
-numberOf Answer.Done = 0
-numberOf Answer.BadShape = 1
-numberOf Answer.TooFew = 2
+numberOf a = saidNumber (answerSaid a)
 
 -- what `cauchy_recovery` leaves
 pub record RecoveryLeft : Type 0 where

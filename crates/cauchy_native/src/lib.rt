@@ -1,4 +1,4 @@
-// The calls of `cauchy` under C names, for programs in other languages and for measuring: an answer goes out as its number.
+// The calls of `cauchy` under C names, for programs in other languages and for measuring: an answer goes out as document 01's number.
 use cauchy::Answer;
 use cauchy::rebuild_all;
 use cauchy::recovery;
@@ -6,14 +6,14 @@ ghost use mathlib.Core.Path.{_≡_};
 ghost use Rattle.cauchy.specs.Calls.{recoverySpec, rebuildAllSpec};
 ghost use Rattle.cauchy_native.specs.Number.{numberOf, recoveryLeft, numberedRecovery, rebuildLeft, numberedRebuild};
 
-// 0 for done, 1 for a wrong shape, 2 for too few held.
+// 0 for done, 71 for a wrong shape, 50 for too few held.
 fn number(a: Answer) -> u8
     ensures { λ r. ⌜ r ≡ numberOf a ⌝ }
 {
     match a {
         Answer::Done => 0,
-        Answer::BadShape => 1,
-        Answer::TooFew => 2,
+        Answer::BadShape => 71,
+        Answer::TooFew => 50,
     }
 }
 

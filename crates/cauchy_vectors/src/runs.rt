@@ -13,11 +13,12 @@ use crate::fillers::mixed;
 use cauchy::Answer;
 use libc::STDOUT_FILENO;
 
+// 0 for done, and document 01's number for a refusal.
 pub(crate) fn number_of(answer: Answer) -> u64 {
     match answer {
         Answer::Done => 0,
-        Answer::BadShape => 1,
-        Answer::TooFew => 2,
+        Answer::BadShape => 71,
+        Answer::TooFew => 50,
     }
 }
 

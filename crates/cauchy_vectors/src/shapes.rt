@@ -6,6 +6,7 @@ use crate::runs::decimal;
 use crate::runs::hex8;
 use crate::runs::number_of;
 use crate::runs::word;
+use libc::STDOUT_FILENO;
 
 // Twelve bytes of data and a block of four are lent.
 fn show_recovery(n: usize, m: usize, s: usize, k: usize) {
@@ -23,7 +24,7 @@ fn show_recovery(n: usize, m: usize, s: usize, k: usize) {
     word(b" ");
     decimal(k);
     word(b": ");
-    hex8(answer);
+    io::print_decimal(STDOUT_FILENO, answer);
     word(b" ");
     hex8(digest_bytes(1, &out));
     word(b"\n");
@@ -67,7 +68,7 @@ fn show_rebuild(n: usize, m: usize, s: usize) {
     word(b" ");
     decimal(s);
     word(b": ");
-    hex8(answer);
+    io::print_decimal(STDOUT_FILENO, answer);
     word(b" ");
     hex8(digest_bytes(1, &scratch));
     word(b"\n");

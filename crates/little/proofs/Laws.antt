@@ -1,10 +1,11 @@
 -- The laws that the crates above cite, as the records of specs/Laws.antt state them, and no others. Assumes nothing.
 use Prim.Native.Nat.{ℕ}
-use Rattle.little.specs.Laws.{TestLaws, PartLaws, PutLaws, BlockLaws, SameLaws, LittleLaws, ByteLaws}
+use Rattle.little.specs.Laws.{TestLaws, PartLaws, PutLaws, BlockLaws, SameLaws, SaidLaws, LittleLaws, ByteLaws}
 use Rattle.little.proofs.TestLaws.{or-false, and-both, ltb-suc}
 use Rattle.little.proofs.PartLaws.{below-or, length-part, getD-part, part-rest, part-whole, part-append-left, part-append-right, part-part, drop-down, lent, put-none, length-put, put-before, put-inside, put-after, part-put, part-put-apart, put-same, put-put, put-swap, block-inside, blocks-apart, length-block, length-putBlock, block-put, block-put-other}
 use Rattle.little.proofs.ListLaws.{length-cut, cut-long, drop-zeros, next, piece, byte-after, put-next, drop-set, copied, copied-in, copied-front}
 use Rattle.little.proofs.RunLaws.{either-least, same-refl, same-eq, same-differ, same-apart}
+use Rattle.little.proofs.SaidLaws.{told-apart}
 use Rattle.little.proofs.FieldLaws.{laws, bytes-append, bytes-part, bytes-put, le-same, le-part, le-drop, put-fits}
 
 pub testLaws : TestLaws
@@ -71,6 +72,9 @@ sameLaws = record {
   same-differ = same-differ;
   same-apart = same-apart;
 }
+
+pub saidLaws : SaidLaws
+saidLaws = record { told-apart = λ said back b v w e. told-apart said back b v w e }
 
 pub littleLaws : (width : ℕ) → LittleLaws width
 littleLaws = laws

@@ -6,3 +6,4 @@ mod PartLaws
 mod RunLaws
 mod ListLaws
 mod FieldLaws
+mod SaidLaws

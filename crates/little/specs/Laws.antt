@@ -1,5 +1,5 @@
--- What the floors above may rely on: the laws of tests, of parts, stores and blocks of lists, of copies and runs, and of
--- little-endian fields, those as one law over the width (document 01, "Shams to keep out": proved once). Statements, proved under
+-- What the floors above may rely on: the laws of tests, of parts, stores and blocks of lists, of copies and runs, of
+-- what answers say, and of little-endian fields, those as one law over the width (document 01, "Shams to keep out": proved once). Statements, proved under
 -- like names in proofs/Laws.antt; no other law of this crate is seen above.
 use Prim.Native.Nat.{ℕ, suc, _+_, _-_, _*_, _%_, _^_, _<_, _≤_, min}
 use mathlib.Core.Path.{_≡_}
@@ -11,6 +11,7 @@ use lib.ListN.{length, getD, take, drop, set}
 use Rattle.little.specs.Parts.{part, put, block, putBlock}
 use Rattle.little.specs.Runs.{zeros, same}
 use Rattle.little.specs.Fields.{Bytes, le, bytesOf, putLe}
+use Rattle.little.specs.Said.{Said, Apart}
 
 -- ---- tests
 
@@ -102,6 +103,12 @@ pub record SameLaws : Type 0 where
   pub same-eq : (a b : List ℕ) → same a b ≡ true → a ≡ b
   pub same-differ : (a b : List ℕ) → (a ≡ b → ⊥) → same a b ≡ false
   pub same-apart : (a b : List ℕ) → same a b ≡ false → a ≡ b → ⊥
+
+-- ---- what answers say
+
+pub record SaidLaws : Type 1 where
+  -- answers that can be read back from what they say are told apart by it
+  pub told-apart : {A : Type 0} (said : A → Said) (back : Said → A) → ((v : A) → back (said v) ≡ v) → Apart said
 
 -- ---- little-endian fields
 

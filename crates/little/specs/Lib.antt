@@ -1,6 +1,8 @@
--- Parts of lists, runs, fields over the width, what the floors above may rely on (Laws), and why an equation admits a single answer.
+-- Parts of lists, runs, fields over the width, what an answer says, why an equation admits a single answer, and what the floors
+-- above may rely on (Laws).
 pub mod Parts
 pub mod Runs
 pub mod Fields
+pub mod Said
 pub mod Laws
 pub mod Promise

@@ -1,4 +1,6 @@
--- Laws of checks (CheckLaws), the proof of the table of numbers, and what a refusal leaves (RefusalLaws).
+-- Laws of checks (CheckLaws), of the cases of an enum (CaseLaws), the proof of the table of numbers, and what a refusal leaves
+-- (RefusalLaws).
 pub mod CheckLaws
+pub mod CaseLaws
 pub mod Numbered
 pub mod RefusalLaws

@@ -35,3 +35,5 @@ pub record Numbered : Type 0 where
   pub paper-back : each (λ (k : ℕ). eqb (numberOf (reasonOf k)) k) paperTable ≡ true
   -- and so has each of our rows
   pub number-back : each (λ (k : ℕ). eqb (numberOf (reasonOf k)) k) table ≡ true
+  -- and each reason is the one that its number leads to, so two reasons with one number are one
+  pub reason-back : (r : Reason) → reasonOf (numberOf r) ≡ r
