@@ -1,6 +1,6 @@
--- What the floors above may rely on: the laws of tests, of parts, stores and blocks of lists, of copies and runs, of
--- what answers say, and of little-endian fields, those as one law over the width (document 01, "Shams to keep out": proved once). Statements, proved under
--- like names in proofs/Laws.antt; no other law of this crate is seen above.
+-- What the floors above may rely on: the laws of tests, of parts, stores and blocks of lists, of copies and runs, of what answers
+-- say, and of little-endian fields, those as one law over the width (document 01, "Shams to keep out": proved once). Statements,
+-- proved under like names in proofs/Laws.antt; no other law of this crate is seen above.
 use Prim.Native.Nat.{ℕ, suc, _+_, _-_, _*_, _%_, _^_, _<_, _≤_, min}
 use mathlib.Core.Path.{_≡_}
 use mathlib.Core.Bool.{Bool, true, false, _&&_, _||_}

@@ -25,6 +25,7 @@ use Rattle.sfc.proofs.writing.InputLaws.{RightInput, right-input}
 use Rattle.sfc.proofs.writing.FileLaws as file
 use Rattle.sfc.proofs.writing.HeaderBack as header
 use Rattle.sfc.proofs.writing.ChunkBack.{length-back, length-passed}
+use Rattle.sfc.proofs.demand.Answers.{by-number}
 use Rattle.sfc.proofs.demand.RoundTrip.{made, received-holds}
 
 pub checkLaws : CheckLaws
@@ -39,6 +40,7 @@ checkLaws = record {
   good-all = λ refuse cs good e. good-all refuse cs good e;
   refused-all = λ refuse cs good r e. refused-all refuse cs good r e;
   tells = λ seen refuse good f g cs v e. tells seen refuse good f g cs v e;
+  by-number = λ said refuse good f cs t. by-number said refuse good f cs t;
   number-in = number-in;
   leaves = leaves;
   ends = ends;

@@ -17,4 +17,5 @@ pub use Rattle.sfc.proofs.demand.Unread.{unread}
 pub use Rattle.sfc.proofs.demand.Demand1.{demand1}
 pub use Rattle.sfc.proofs.demand.Demand2.{demand2}
 pub use Rattle.sfc.proofs.demand.Demand3.{demand3}
+pub use Rattle.sfc.proofs.demand.Answers.{answers, said-apart}
 pub use Rattle.sfc.proofs.demand.Worked.{worked}

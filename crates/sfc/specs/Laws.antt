@@ -8,7 +8,9 @@ use mathlib.Core.List.{List, _++_}
 use lib.ListN.{length, getD}
 use Rattle.little.specs.Parts.{put}
 use Rattle.little.specs.Runs.{among}
+use Rattle.little.specs.Said.{Said, refused}
 use Rattle.sfc.specs.answer.Numbers.{Check, checked, verdict, passes, Passed, NumbersAre, numberOf}
+use Rattle.sfc.specs.answer.Said.{tabled, byNumber}
 use Rattle.sfc.specs.format.Limits.{wantedBlocks}
 use Rattle.sfc.specs.format.Header.{lengthField, acceptedHeader, readHeader}
 use Rattle.sfc.specs.format.Chunk.{chunkLength, chunkChecks, measureChecks, measureChunk}
@@ -50,6 +52,9 @@ pub record CheckLaws : Type 1 where
   -- what an answer tells of the checks that it came from; `seen` reads the verdict out of it
   pub tells : {A : Type 0} (seen : A → Checked) (refuse : Reason → A) (good : A) → ((r : Reason) → seen (refuse r) ≡ Refused r) → seen good ≡ Good
       → (cs : List Check) (v : Checked) → seen (checked cs refuse good) ≡ v → verdict cs ≡ v
+  -- and an answer read by its number: that of the first check whose test holds
+  pub by-number : {A : Type 0} (said : A → Said) (refuse : Reason → A) (good : A) → ((r : Reason) → said (refuse r) ≡ refused (numberOf r))
+      → (cs : List Check) → tabled cs ≡ true → said (checked cs refuse good) ≡ byNumber cs (said good)
   -- a refusal has one of the list's numbers
   pub number-in : (P : ℕ → Type 0) (cs : List Check) (r : Reason) → NumbersAre P cs → verdict cs ≡ Refused r → P (numberOf r)
   -- an output that only a good verdict changes

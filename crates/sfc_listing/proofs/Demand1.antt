@@ -9,6 +9,8 @@ use lib.Dec.{lit≤}
 use lib.ListN.{length}
 use Rattle.little.specs.Parts.{put}
 use Rattle.little.specs.Runs.{any}
+use Rattle.little.specs.Said.{says}
+use Rattle.sfc.specs.answer.Said.{byNumber, writtenSaid}
 use Rattle.sfc.specs.answer.Numbers.{Check, checked, verdict, reasonOf, numberOf}
 use Rattle.sfc.specs.demand.Demand1.{Leaves, Ends}
 use Rattle.sfc.specs.format.Header.{regionOf, headOf}
@@ -35,6 +37,10 @@ module _ (f : List ℕ) (d : Desk) (out : List ℕ) where
   told : (v : Checked) → writtenSeen (listed f d out .answer) ≡ v → verdict (listingChecks d out) ≡ v
   unfolding listed
   told v e = checkLaws .tells writtenSeen Refused (Bytes (length (listingOf f))) (λ q. refl) refl (listingChecks d out) v e
+
+  listing-says : writtenSaid (listed f d out .answer) ≡ byNumber (listingChecks d out) (says "bytes" (length (listingOf f) ∷ []))
+  unfolding listed
+  listing-says = checkLaws .by-number writtenSaid Refused (Bytes (length (listingOf f))) (λ r. refl) (listingChecks d out) refl
 
   listing-refused : (r : Reason) → listed f d out .answer ≡ Refused r → Leaves r (71 ∷ 52 ∷ []) out (listed f d out .output) × (listed f d out .desk ≡ d)
   unfolding listed any
@@ -73,6 +79,7 @@ complete-only h x e = decided-good (contentChecks h (x .store) (x .marks)) e
 
 pub listing-demand : ListingDemand
 listing-demand = record {
+  listing-says = listing-says;
   listing-refused = listing-refused;
   listing-ends = listing-ends;
   listing-fits = listing-fits;

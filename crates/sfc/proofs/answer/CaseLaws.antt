@@ -8,7 +8,7 @@ use mathlib.Core.Logic.{inl, inr}
 use native.Mathlib.Omega.{arith}
 use denote.Struct.Field.{Field}
 use denote.Enum.Declared.{Choice}
-use Rattle.little.proofs.TestLaws.{and-both}
+use Rattle.little.proofs.Laws.{testLaws}
 
 -- `parts` has the fields of each case: here there are none
 abbrev pub Bare : List (List Field) → Type 0
@@ -38,6 +38,6 @@ inEach ((f ∷ fs) ∷ parts) b t = absurd b
 
 pub in-each : (parts : List (List Field)) (b : Bare parts) (t : Choice parts → Bool) → inEach parts b t ≡ true → (c : Choice parts) → t c ≡ true
 in-each [] b t e c = absurd c
-in-each ([] ∷ parts) b t e (inl v) = and-both (t (inl tt)) _ e .0
-in-each ([] ∷ parts) b t e (inr c) = in-each parts b (λ d. t (inr d)) (and-both (t (inl tt)) _ e .1) c
+in-each ([] ∷ parts) b t e (inl v) = testLaws .and-both (t (inl tt)) _ e .0
+in-each ([] ∷ parts) b t e (inr c) = in-each parts b (λ d. t (inr d)) (testLaws .and-both (t (inl tt)) _ e .1) c
 in-each ((f ∷ fs) ∷ parts) b t e c = absurd b

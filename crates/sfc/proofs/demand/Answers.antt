@@ -9,11 +9,10 @@ use borrow.Author.Tests.{eqb-true}
 use lib.Dec.{eqb}
 use lib.ListN.{length, getD}
 use Rattle.little.specs.Said.{Said, refused, says}
-use Rattle.little.proofs.Laws.{saidLaws}
-use Rattle.little.proofs.TestLaws.{and-both}
+use Rattle.little.proofs.Laws.{saidLaws, testLaws}
 use Rattle.sfc.specs.answer.Numbers.{Check, checked, numberOf, reasonOf}
 use Rattle.sfc.specs.answer.Places.{number, place}
-use Rattle.sfc.specs.answer.Said.{byNumber, checkedSaid, headerSaid, noteSaid, fieldSaid, chunkSaid, measuredSaid, verdictSaid, countedSaid, handedOutSaid, prefixSaid, blockSaid, listedSaid, writtenSaid}
+use Rattle.sfc.specs.answer.Said.{byNumber, tabled, checkedSaid, headerSaid, noteSaid, fieldSaid, chunkSaid, measuredSaid, verdictSaid, countedSaid, handedOutSaid, prefixSaid, blockSaid, listedSaid, writtenSaid}
 use Rattle.sfc.specs.format.Header.{headerChecks, regionOf, headOf, refusedHeader, acceptedHeader, readHeader}
 use Rattle.sfc.specs.format.Extension.{fieldsOf}
 use Rattle.sfc.specs.format.Lookup.{foundAmong, extensionOf, extensionPlace, findField}
@@ -46,16 +45,11 @@ use Rattle.sfc.proofs.answer.Numbered.{reason-back}
 
 -- ---- the law
 
--- whether each check's number has a reason that has it: a computed test, since the numbers of a list are literals
-abbrev tabled : List Check → Bool
-tabled [] = true
-tabled (c ∷ cs) = eqb (numberOf (reasonOf (c .1))) (c .1) && tabled cs
-
-by-number : {A : Type 0} (said : A → Said) (refuse : Reason → A) (good : A) → ((r : Reason) → said (refuse r) ≡ refused (numberOf r))
+pub by-number : {A : Type 0} (said : A → Said) (refuse : Reason → A) (good : A) → ((r : Reason) → said (refuse r) ≡ refused (numberOf r))
     → (cs : List Check) → tabled cs ≡ true → said (checked cs refuse good) ≡ byNumber cs (said good)
 by-number said refuse good f [] t = refl
-by-number said refuse good f ((true, k) ∷ cs) t = f (reasonOf k) ∙ ap refused (eqb-true (numberOf (reasonOf k)) k (and-both _ (tabled cs) t .0))
-by-number said refuse good f ((false, k) ∷ cs) t = by-number said refuse good f cs (and-both (eqb (numberOf (reasonOf k)) k) (tabled cs) t .1)
+by-number said refuse good f ((true, k) ∷ cs) t = f (reasonOf k) ∙ ap refused (eqb-true (numberOf (reasonOf k)) k (testLaws .and-both _ (tabled cs) t .0))
+by-number said refuse good f ((false, k) ∷ cs) t = by-number said refuse good f cs (testLaws .and-both (eqb (numberOf (reasonOf k)) k) (tabled cs) t .1)
 
 -- ---- call by call
 

@@ -1,9 +1,10 @@
 -- What each answer of the container says, case by case: document 01's number of a refusal, or a word and the values that go with
 -- it. What the calls say is in demand/Answers. Assumes nothing: these are definitions.
-use mathlib.Core.Bool.{cond}
+use mathlib.Core.Bool.{Bool, true, cond, _&&_}
 use mathlib.Core.List.{List, [], _∷_}
+use lib.Dec.{eqb}
 use Rattle.little.specs.Said.{Said, refused, says}
-use Rattle.sfc.specs.answer.Numbers.{Check, numberOf}
+use Rattle.sfc.specs.answer.Numbers.{Check, numberOf, reasonOf}
 use Rattle.sfc.specs.declared.answer.reason.Checked.{Checked}
 use Rattle.sfc.specs.declared.answer.written.Written.{Written}
 use Rattle.sfc.specs.declared.format.header.HeaderRead.{HeaderRead}
@@ -22,6 +23,11 @@ use Rattle.sfc.specs.declared.note.resend.NoteRead.{NoteRead}
 abbrev pub byNumber : List Check → Said → Said
 byNumber [] good = good
 byNumber (c ∷ cs) good = cond (c .0) (refused (c .1)) (byNumber cs good)
+
+-- whether each check's number has a reason that has it: a computed test, since the numbers of a list are literals
+abbrev pub tabled : List Check → Bool
+tabled [] = true
+tabled (c ∷ cs) = eqb (numberOf (reasonOf (c .1))) (c .1) && tabled cs
 
 -- ---- what a list of checks came to, alone or beside what was read
 
