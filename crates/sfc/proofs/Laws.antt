@@ -17,6 +17,7 @@ use Rattle.sfc.proofs.format.ChunkLaws.{measured, unmeasured, front-the
 use Rattle.sfc.proofs.format.LimitLaws.{wanted-holds}
 use Rattle.sfc.proofs.session.MarkLaws.{right-shape, right-marks}
 use Rattle.sfc.proofs.session.SessionLaws.{number-in, right-lent, past-two}
+use Rattle.sfc.proofs.session.OfferLaws.{stays-lent}
 use Rattle.sfc.proofs.session.HistoryLaws.{total-all, not-full}
 use Rattle.sfc.proofs.session.RightLaws.{accepted-shape, blank-right}
 use Rattle.sfc.proofs.session.DifferentLaws.{held-different}
@@ -60,7 +61,7 @@ pub measureLaws : MeasureLaws
 measureLaws = record { measured = measured; unmeasured = unmeasured; front-there = front-there }
 
 pub offerLaws : OfferLaws
-offerLaws = record { past-two = past-two; total-all = total-all; not-full = not-full }
+offerLaws = record { past-two = past-two; stays-lent = stays-lent; total-all = total-all; not-full = not-full }
 
 pub countLaws : CountLaws
 countLaws = record { unheld-count = unheld-count; held-different = held-different }

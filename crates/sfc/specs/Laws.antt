@@ -89,6 +89,8 @@ pub record OfferLaws : Type 0 where
   -- past 71 and 43 the chunk and its mark decide
   pub past-two : (h : Head) (x : Session) (c : List ℕ) → sessionWrong h x ≡ false → tallyFull (x .tallies) ≡ false
       → verdictOf h x c ≡ checked (chunkChecks h c ++ markChecks h x c) NotTaken (welcomed h x c)
+  -- 71 has nothing against the session that offers leave, where it had nothing before
+  pub stays-lent : (h : Head) (x : Session) (cs : List (List ℕ)) → sessionWrong h x ≡ false → sessionWrong h (afterAll h x cs) ≡ false
   -- each offer adds one to the tallies at most, so that fewer than 43's number never fill them
   pub total-all : (h : Head) (x : Session) (cs : List (List ℕ)) → total (afterAll h x cs .tallies) ≤ total (x .tallies) + length cs
   pub not-full : (t : Tallies) → total t < 4294967295 → tallyFull t ≡ false

@@ -21,9 +21,8 @@ use Rattle.sfc_listing.specs.Listing.{between, sessionIn, uuidLine, shap
 use Rattle.sfc.specs.declared.format.header.Head.{Head}
 use Rattle.sfc.specs.declared.answer.reason.Reason.{Reason}
 use Rattle.sfc.specs.declared.answer.reason.Checked.the-variants.{Good}
-use Rattle.sfc.proofs.Laws.{checkLaws, lentLaws}
+use Rattle.sfc.proofs.Laws.{checkLaws, lentLaws, offerLaws}
 use Rattle.sfc.proofs.Theorems.{ranges-few}
-use Rattle.sfc_walk.proofs.WalkTheorems.{walk-theorems}
 use Rattle.sfc_listing.proofs.FileLaws.{good-read}
 
 -- ---- pieces, and one after the other
@@ -150,7 +149,7 @@ module _ (f : List ℕ) where
 
   pub session-right : verdict (headerChecks f) ≡ Good → sessionWrong head (sessionIn head f) ≡ false
   unfolding sessionIn walkOver
-  session-right g = walk-theorems .stays-lent head (blank head) (chunksOf head (between f)) (lentLaws .blank-right head (lentLaws .accepted-shape f head (good-read f g)))
+  session-right g = offerLaws .stays-lent head (blank head) (chunksOf head (between f)) (lentLaws .blank-right head (lentLaws .accepted-shape f head (good-read f g)))
 
   pub listing-fits : length (listingOf f) ≤ 32768
   unfolding listingOf

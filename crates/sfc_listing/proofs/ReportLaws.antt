@@ -41,9 +41,8 @@ use Rattle.sfc.specs.declared.give.hand_out.HandedOut.{HandedOut}
 use Rattle.sfc.specs.declared.give.hand_out.HandedOut.the-variants.{Complete, Refused as NotHandedOut}
 use Rattle.sfc_listing.specs.declared.lines.LastWord.{LastWord}
 use Rattle.sfc_listing.specs.declared.lines.LastWord.the-variants.{Complete as Whole, HashDiffers, Incomplete}
-use Rattle.sfc.proofs.Laws.{checkLaws, lentLaws}
+use Rattle.sfc.proofs.Laws.{checkLaws, lentLaws, offerLaws}
 use Rattle.sfc.proofs.Theorems.{ranges-few}
-use Rattle.sfc_walk.proofs.WalkTheorems.{walk-theorems}
 use Rattle.sfc_listing.proofs.LineLaws.{bounds-lines}
 
 -- ---- what right marks come to
@@ -157,7 +156,7 @@ module _ (h : Head) (d : Desk) (out : List ℕ) (y : Ready h d out) where
 
     whole-lent : sessionWrong h whole ≡ false
     unfolding walkOver
-    whole-lent = walk-theorems .stays-lent h (blank h) (chunksOf h b) (lentLaws .blank-right h (y .shape))
+    whole-lent = offerLaws .stays-lent h (blank h) (chunksOf h b) (lentLaws .blank-right h (y .shape))
 
     pub ready-walked : Ready h (deskOf store marks (d .scratch) (d .numbers) (d .content) (d .bounds)) out
         × (lentWrong (h .size) (h .n) (h .m) (h .s) store marks ≡ false)

@@ -1,5 +1,4 @@
--- One step of the walk: where there is a next chunk and where there is none, what it makes of the chunks; and that 71 has nothing
--- against the session that a walk leaves. Assumes nothing.
+-- One step of the walk: where there is a next chunk and where there is none, what it makes of the chunks. Assumes nothing.
 use Prim.Native.Nat.{ℕ, zero, suc, _-_, _<_, _≤_}
 use mathlib.Core.Path.{_≡_, refl}
 use mathlib.Core.Bool.{Bool, true, false}
@@ -8,11 +7,8 @@ use native.Mathlib.Omega.{arith}
 use lib.ListN.{length, take, drop}
 use Rattle.sfc.specs.answer.Numbers.{passes}
 use Rattle.sfc.specs.format.Chunk.{chunkLength, measureChecks}
-use Rattle.sfc.specs.session.Session.{Session, sessionWrong, after}
-use Rattle.sfc.specs.session.History.{afterAll}
 use Rattle.sfc.specs.declared.format.header.Head.{Head}
 use Rattle.sfc.proofs.Laws.{measureLaws}
-use Rattle.sfc.proofs.Theorems.{one-offer}
 use Rattle.sfc_walk.specs.Walk.{frontLength, chunksIn}
 
 module _ (h : Head) (b : List ℕ) where
@@ -48,10 +44,3 @@ module _ (h : Head) (b : List ℕ) where
   unfolding chunksIn
   next-chunk zero l e = absurd (omega arith)
   next-chunk (suc most) l e = let k : suc most - 1 ≡ most = omega arith in rw (k, e)
-
--- ---- 71 has nothing against the session that a walk leaves
-
-pub all-lent : (h : Head) (x : Session) (cs : List (List ℕ)) → sessionWrong h x ≡ false → sessionWrong h (afterAll h x cs) ≡ false
-unfolding afterAll
-all-lent h x [] e = e
-all-lent h x (c ∷ cs) e = all-lent h (after h x c) cs (one-offer .lent-stays h x c e)

@@ -27,7 +27,6 @@ use Rattle.sfc.specs.declared.session.offer.Verdict.{Verdict}
 use Rattle.sfc.specs.declared.session.offer.Verdict.the-variants.{Fresh, Repeat, Refused}
 use Rattle.sfc.proofs.Laws.{checkLaws, measureLaws, offerLaws}
 use Rattle.sfc.proofs.Theorems.{one-offer}
-use Rattle.sfc_walk.proofs.StepLaws.{all-lent}
 use Rattle.sfc_walk.proofs.FoundLaws.{found}
 
 -- ---- checks
@@ -144,5 +143,5 @@ module _ (h : Head) where
         let stop : passes (lengthChecks (h .s) left) ≡ false = rw shape at (found h (length b) b (omega arith) .stops) in
         let w = refuses (lengthChecks (h .s) left) stop in
         let full = offerLaws .not-full (y .tallies) (omega (arith, offerLaws .total-all h x (chunksOf h b), walk-few (length b) b)) in
-        let n = length-refused y left (all-lent h x (chunksOf h b) lent) full (w .0) (w .1) in
+        let n = length-refused y left (offerLaws .stays-lent h x (chunksOf h b) lent) full (w .0) (w .1) in
         (w .0, n .0, n .1, n .2)

@@ -2,7 +2,7 @@
 use native.Mathlib.Omega.{arith}
 use lib.ListN.{length}
 use Rattle.sfc_walk.specs.WalkTheorems.{WalkTheorems}
-use Rattle.sfc_walk.proofs.StepLaws.{no-chunk, next-chunk, all-lent}
+use Rattle.sfc_walk.proofs.StepLaws.{no-chunk, next-chunk}
 use Rattle.sfc_walk.proofs.FoundLaws.{found, same}
 use Rattle.sfc_walk.proofs.StepOver.{walk-answered, walk-ends}
 
@@ -14,7 +14,6 @@ walk-theorems = record {
   walk-stops = λ h b. found h (length b) b (omega arith) .stops;
   no-chunk = no-chunk;
   next-chunk = next-chunk;
-  stays-lent = all-lent;
   chunks-answered = walk-answered;
   end-answered = walk-ends;
 }

@@ -42,10 +42,8 @@ pub record WalkTheorems : Type 0 where
   pub no-chunk : (h : Head) (b : List ℕ) (most : ℕ) → passes (measureChecks h b) ≡ false → chunksIn most h b ≡ []
   pub next-chunk : (h : Head) (b : List ℕ) (most : ℕ) → 0 < most → passes (measureChecks h b) ≡ true
       → chunksIn most h b ≡ take (chunkLength b) b ∷ chunksIn (most - 1) h (drop (chunkLength b) b)
-  -- 71 has nothing against the session that offers leave, where it had nothing before.
-  pub stays-lent : (h : Head) (x : Session) (cs : List (List ℕ)) → sessionWrong h x ≡ false → sessionWrong h (afterAll h x cs) ≡ false
-  -- Then, and short of 43, each chunk is answered fresh, repeat or 33 to 42, and what is left after the last of them, be it nothing,
-  -- would be refused by 30, 31 or 32.
+  -- Where 71 has nothing against the session, and short of 43, each chunk is answered fresh, repeat or 33 to 42, and what is left
+  -- after the last of them, be it nothing, would be refused by 30, 31 or 32.
   pub chunks-answered : (h : Head) (x : Session) (b : List ℕ) → sessionWrong h x ≡ false → total (x .tallies) + length b < 4294967295
       → each steppedOver (verdicts h x (chunksOf h b)) ≡ true
   pub end-answered : (h : Head) (x : Session) (b : List ℕ) → sessionWrong h x ≡ false → total (x .tallies) + length b < 4294967295

@@ -37,7 +37,7 @@ use Rattle.sfc.specs.declared.session.offer.Verdict.{Verdict}
 use Rattle.sfc.specs.declared.session.offer.Verdict.the-variants.{Fresh, Repeat, Refused}
 use Rattle.sfc.proofs.answer.CheckLaws.{passed, all-passed, front-good, passes-good, good-passes, let-through}
 use Rattle.sfc.proofs.session.SessionLaws.{verdict-repeat, verdict-conflict}
-use Rattle.sfc.proofs.session.OfferLaws.{one-offer}
+use Rattle.sfc.proofs.session.OfferLaws.{one-offer, stays-lent}
 
 -- ---- what stands at a place, and one piece after the other
 
@@ -227,11 +227,6 @@ module _ (h : Head) (i : ℕ) (inside : i < h .n + h .m) (b : List ℕ) where
   all-stay y [] a = a
   all-stay y (d ∷ ds) a = all-stay (after h y d) ds (stays y d a)
 
-right-stays : (h : Head) (y : Session) (ds : List (List ℕ)) → sessionWrong h y ≡ false → sessionWrong h (afterAll h y ds) ≡ false
-unfolding afterAll
-right-stays h y [] e = e
-right-stays h y (d ∷ ds) e = right-stays h (after h y d) ds (one-offer .lent-stays h y d e)
-
 -- ---- after a fresh chunk
 
 -- what was fresh passed 71 and 30 to 40
@@ -250,7 +245,7 @@ module _ (h : Head) (x : Session) (i p : ℕ) (c d : List ℕ) (u : length (h .u
       let t = one-offer .fresh-changes-one h x c i p e in
       let q = fresh-passed h x i p c e in
       let w : Welcome h (afterAll h (after h x c) between) d =
-      record { lent = right-stays h (after h x c) between (one-offer .lent-stays h x c (q .0)); room = f; whole = passes-good (chunkChecks h d) (k .passed) } in
+      record { lent = stays-lent h (after h x c) between (one-offer .lent-stays h x c (q .0)); room = f; whole = passes-good (chunkChecks h d) (k .passed) } in
       ⊎-elim
       (λ (a : (mark (afterAll h (after h x c) between) i ≡ 1) × (blockOf h (afterAll h (after h x c) between) i ≡ payloadOf c)).
       tells-copies h (afterAll h (after h x c) between) i p c d u (record { bytes = b; passed = q .1 }) k (sym (t .0)) j (t .1) w m (a .1))

@@ -17,6 +17,7 @@ use Rattle.sfc.specs.format.Chunk.{indexOf, payloadLength, payloadOf, ch
 use Rattle.sfc.specs.answer.Places.{number, place}
 use Rattle.sfc.specs.session.Tallies.{tallyFull}
 use Rattle.sfc.specs.session.Session.{Session, mark, blockOf, sessionWrong, markChecks, offerChecks, welcomed, verdictOf, withBlock, settled, tallied, after}
+use Rattle.sfc.specs.session.History.{afterAll}
 use Rattle.sfc.specs.inner.Steps.{Welcome}
 use Rattle.sfc.specs.session.SessionTheorems.{ChangesOne, SameKept, OneOffer}
 use Rattle.sfc.specs.declared.format.header.Head.{Head}
@@ -181,3 +182,9 @@ one-offer = record {
   barring-changes-one = barring-changes-one;
   lent-stays = lent-stays;
 }
+
+-- what is lent rightly stays so over many offers
+pub stays-lent : (h : Head) (x : Session) (cs : List (List ℕ)) → sessionWrong h x ≡ false → sessionWrong h (afterAll h x cs) ≡ false
+unfolding afterAll
+stays-lent h x [] e = e
+stays-lent h x (c ∷ cs) e = stays-lent h (after h x c) cs (one-offer .lent-stays h x c e)
