@@ -8,7 +8,7 @@ use lib.Dec.{ltb, eqb}
 use Rattle.little.specs.Said.{Said, refused, says}
 use Rattle.little.proofs.Laws.{saidLaws}
 use Rattle.cauchy.specs.Decode.{holding}
-use Rattle.cauchy.specs.Calls.{wrongShape, wrongLent, recovered, recoverySpec, wrongParts, partsSpec, wrongMemory, rebuilt, rebuildSpec, rebuildAllSpec}
+use Rattle.cauchy.specs.Calls.{wrongShape, wrongLent, recovered, recoverySpec, wrongParts, partsSpec, wrongFour, fourSpec, wrongMemory, rebuilt, rebuildSpec, rebuildAllSpec}
 use Rattle.cauchy.specs.Answers.{answerSaid, Answers}
 use Rattle.cauchy.specs.declared.Answer.{Answer}
 
@@ -37,6 +37,11 @@ parts : (n m s k : ℕ) (front last out : List ℕ) → answerSaid (partsSpec n 
     ≡ cond (wrongShape n m s || wrongParts n m s k front last out) (refused 71) (says "done" [])
 unfolding partsSpec
 parts n m s k front last out = recovery-says (wrongShape n m s || wrongParts n m s k front last out) _ _
+
+four : (n m s k : ℕ) (front last out : List ℕ) → answerSaid (fourSpec n m s k front last out .answer)
+    ≡ cond (wrongShape n m s || wrongFour n m s k front last out) (refused 71) (says "done" [])
+unfolding fourSpec
+four n m s k front last out = recovery-says (wrongShape n m s || wrongFour n m s k front last out) _ _
 
 module _ (n m s : ℕ) (marks store scratch numbers : List ℕ) where
   -- 71 of the columns from `first` on
@@ -68,6 +73,7 @@ pub answers : Answers
 answers = record {
   recovery = recovery;
   parts = parts;
+  four = four;
   rebuild = rebuild;
   rebuild-all = rebuild-all;
   apart = saidLaws .told-apart answerSaid answerBack answer-back;

@@ -6,4 +6,3 @@ pub mod FieldCode
 pub mod WordCode
 pub mod RowLaws
 pub mod GfLaws
-pub mod Linear

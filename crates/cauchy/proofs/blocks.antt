@@ -4,3 +4,4 @@ pub mod Store
 pub mod BlockLaws
 pub mod CodeLaws
 pub mod Filled
+pub mod MixLaws

@@ -17,7 +17,7 @@ wrongShape n m s = eqb n 0 || ltb mostData n || ltb mostRecovery m || ltb s leas
 
 -- ---- recovery
 
--- what `recovery` and `recovery_of_parts` leave
+-- what the calls that make recovery blocks leave
 pub record Recovered : Type 0 where
   pub out : List ℕ
   pub answer : Answer
@@ -48,6 +48,20 @@ partsSpec n m s k front last out =
     cond (wrongShape n m s || wrongParts n m s k front last out)
     (recovered out Answer.BadShape)
     (recovered (recoveryBlock n m s (front ++ last) k) Answer.Done)
+
+-- ---- recovery_four
+
+-- as for the parts, with room for four blocks
+unfoldable pub wrongFour : ℕ → ℕ → ℕ → ℕ → List ℕ → List ℕ → List ℕ → Bool
+wrongFour n m s k front last out =
+    not (ltb k m) || not (eqb (length front) ((n - 1) * s)) || not (eqb (length last) s) || not (eqb (length out) (4 * s))
+
+-- the recovery blocks k to k + 3, one after the other; one from the m-th on is what the code's rule makes of its number
+unfoldable pub fourSpec : ℕ → ℕ → ℕ → ℕ → List ℕ → List ℕ → List ℕ → Recovered
+fourSpec n m s k front last out =
+    cond (wrongShape n m s || wrongFour n m s k front last out)
+    (recovered out Answer.BadShape)
+    (recovered (joined (λ r. recoveryBlock n m s (front ++ last) (k + r)) 0 4) Answer.Done)
 
 -- ---- rebuild
 
@@ -88,7 +102,7 @@ unfoldable pub rebuiltScratch : ℕ → ℕ → ℕ → List ℕ → List ℕ �
 rebuiltScratch n m s marks store first count scratch =
     filled s first count (length (missingData n marks)) (λ l w. getD (foundWords n m s marks store w) l 0) scratch
 
--- a refusal changes nothing; else the room for field elements, in which the equations were solved, is left as zeros
+-- a refusal changes nothing; else the room for field elements is left as zeros
 unfoldable pub rebuildSpec : ℕ → ℕ → ℕ → List ℕ → List ℕ → List ℕ → List ℕ → ℕ → ℕ → Rebuilt
 rebuildSpec n m s marks store scratch numbers first count =
     cond (wrongShape n m s || wrongMemory n m s (length marks) (length store) (length scratch) (length numbers) first count)

@@ -30,7 +30,7 @@ mostBlock = 4096
 abbrev pub fieldSize : ℕ
 fieldSize = 65536
 
--- room for the inverse of the largest system, in field elements: 32 times 32
+-- room for field elements that is lent to a rebuilding: 32 times 32, as many as the inverse of the largest system has
 abbrev pub inverseRoom : ℕ
 inverseRoom = 1024
 

@@ -375,12 +375,6 @@ module _ (A : NatOps) (b : ℕ) (L : WordLaws A b) where
   solve-unique xs ys ss ds hx hy hs hd n l m e =
       (rw (vals-lifts xs hx, vals-lifts ys hy, vals-lifts ss hs, vals-lifts ds hd) at (unique-vals (lifts xs hx) (lifts ys hy) (lifts ss hs) (lifts ds hd))) n l m e
 
-  below-solve-vals : (xs ys ss : List Word) → Below b (solve (raw A) (vals xs) (vals ys) (vals ss))
-  below-solve-vals xs ys ss = rw (sym (solve-vals xs ys ss)) (below-vals (solve wordOps xs ys ss))
-
-  pub solve-below : (xs ys ss : List ℕ) → Below b xs → Below b ys → Below b ss → Below b (solve (raw A) xs ys ss)
-  solve-below xs ys ss hx hy hs = rw (vals-lifts xs hx, vals-lifts ys hy, vals-lifts ss hs) at (below-solve-vals (lifts xs hx) (lifts ys hy) (lifts ss hs))
-
   -- ---- the decoder over numbers
 
   lost-vals : (bs : List Bool) (us : List Word) → vals (lost bs us) ≡ lost bs (vals us)

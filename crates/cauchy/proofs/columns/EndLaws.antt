@@ -1,8 +1,8 @@
 -- Rebuilding as a whole: the system is one that can be solved, and its solution is what is promised. Assumes nothing.
 use mathlib.Core.Path.{_≡_, refl, sym, _∙_, ap, ap₂}
 use mathlib.Core.Bool.{true, false, not}
-use mathlib.Core.List.{List, [], _∷_}
-use Prim.Native.Nat.{ℕ, zero, suc, _+_, _-_, _*_, _/_, _≤_, _<_, suc-le-suc}
+use mathlib.Core.List.{List}
+use Prim.Native.Nat.{ℕ, _+_, _-_, _*_, _/_, _≤_, _<_}
 use native.Mathlib.Nat.{mul-le-mul-right}
 use native.Mathlib.Omega.{arith}
 use lib.ListN.{length, getD, take, drop, replicate, length-drop}
@@ -14,34 +14,10 @@ use Rattle.cauchy.proofs.decoding.Known.{length-held, held-take, held-d
 use Rattle.little.proofs.Laws.{testLaws}
 use Rattle.cauchy.specs.Laws.{Right, Enough}
 use Rattle.cauchy.proofs.shape.ShapeLaws.{right}
-use Rattle.cauchy.proofs.algebra.WordCode.{ascending-distinct}
-use Rattle.cauchy.specs.inner.Promises.{Apart, Distinct, Cross, Square, Room, Rows}
+use Rattle.cauchy.specs.inner.Promises.{Room, Rows}
 use Rattle.cauchy.specs.Decode.{missing, count, held, holding, present, rowsUsed, sides, foundWords}
 use Rattle.cauchy.specs.inner.System.{solve, field, zeros}
 use Rattle.cauchy.specs.Calls.{wrongShape, filled, wrongMemory, rebuiltScratch, Rebuilt, rebuildSpec}
-
-apart-missing : (x c : ℕ) (ms : List ℕ) → x < c → Apart x (missing c ms)
-unfolding missing
-apart-missing x c [] h = tt
-apart-missing x c (zero ∷ ms) h = ((λ e. omega arith), apart-missing x (suc c) ms (omega arith))
-apart-missing x c (suc a ∷ ms) h = apart-missing x (suc c) ms (omega arith)
-
-distinct-missing : (c : ℕ) (ms : List ℕ) → Distinct (missing c ms)
-unfolding missing
-distinct-missing c [] = tt
-distinct-missing c (zero ∷ ms) = (apart-missing c (suc c) ms (omega arith), distinct-missing (suc c) ms)
-distinct-missing c (suc a ∷ ms) = distinct-missing (suc c) ms
-
-cross-missing : (ks : List ℕ) (c : ℕ) (ms : List ℕ) → ((i : ℕ) → i < length ks → getD ks i 0 < c) → Cross ks (missing c ms)
-cross-missing [] c ms h = tt
-cross-missing (k ∷ ks) c ms h = (apart-missing k c ms (h 0 (omega arith)), cross-missing ks c ms (λ i m. h (suc i) (suc-le-suc m)))
-
-missing-below : (c : ℕ) (ms : List ℕ) (i : ℕ) → i < length (missing c ms) → getD (missing c ms) i 0 < c + length ms
-unfolding missing
-missing-below c [] i h = absurd (omega arith)
-missing-below c (zero ∷ ms) zero h = omega arith
-missing-below c (zero ∷ ms) (suc i) h = omega (arith, missing-below (suc c) ms i (omega arith))
-missing-below c (suc a ∷ ms) i h = omega (arith, missing-below (suc c) ms i h)
 
 -- what a right shape and right memory tell
 pub record Fine (n m s marks store scratch numbers first count : ℕ) : Type 0 where
@@ -81,33 +57,25 @@ enough n m marks l h =
     let q : length (missing 0 (held (drop n marks))) + count (held (drop n marks)) ≡ length (held (drop n marks)) = length-missing 0 (held (drop n marks)) in
     record { rows = omega arith; few = omega arith; same = omega arith }
 
-pub record Solvable (n m s first count : ℕ) (marks store scratch xs ys : List ℕ) : Type 0 where
-  pub square : Square xs ys
-  pub room : Room s first count (length xs) (2 * count) (length scratch)
+-- what the solver wants, of the rows xs that are used for the e missing blocks
+pub record Solvable (n m s first count e : ℕ) (store scratch xs : List ℕ) : Type 0 where
+  pub room : Room s first count e (2 * count) (length scratch)
   pub rows : Rows n m s xs store
 
-pub solvable : (n m s first count : ℕ) (marks store scratch numbers xs ys : List ℕ) → Fine n m s (length marks) (length store) (length scratch) (length numbers) first count → n ≤ holding marks
-    → xs ≡ rowsUsed n marks → ys ≡ missing m (held (take n marks)) → Solvable n m s first count marks store scratch xs ys
-solvable n m s first count marks store scratch numbers xs ys f h ex ey =
+pub solvable : (n m s first count e : ℕ) (marks store scratch numbers xs : List ℕ) → Fine n m s (length marks) (length store) (length scratch) (length numbers) first count → n ≤ holding marks
+    → e ≡ length (missing m (held (take n marks))) → xs ≡ rowsUsed n marks → Solvable n m s first count e store scratch xs
+solvable n m s first count e marks store scratch numbers xs f h ee ex =
     let r : UsedRows n m marks = rows-used n m marks (f .marks-long) h in
     let g : Enough n m marks = enough n m marks (f .marks-long) h in
-    let lt : length (held (take n marks)) ≡ n = length-held (take n marks) ∙ length-take-le n marks (omega (arith, f .marks-long)) in
-    let lx : length (rowsUsed n marks) ≡ length (missing m (held (take n marks))) = r .size ∙ sym (g .same) in
-    let k : length (missing m (held (take n marks))) * s ≤ m * s = mul-le-mul-right s (g .few) in
-    rw (ex, ey) (record {
-      square = record {
-        size = sym lx;
-        xs-below = λ i q. omega (arith, r .below i q, f .shape .m-most);
-        ys-below = λ i q. omega (arith, missing-below m (held (take n marks)) i q, f .shape .m-most, f .shape .n-most, lt);
-        nodes = record { rows = ascending-distinct (rowsUsed n marks) (r .rises); cols = distinct-missing m (held (take n marks)); apart = cross-missing (rowsUsed n marks) m (held (take n marks)) (r .below) };
-      };
+    let k : e * s ≤ m * s = mul-le-mul-right s (omega (arith, g .few)) in
+    rw ex (record {
       room = record {
         least = f .shape .s-least;
         most = f .shape .s-most;
         even = f .shape .even;
         words = f .words;
-        few = omega (arith, g .few, f .shape .m-most, lx);
-        inside = rw lx (omega (arith, f .scratch-long));
+        few = omega (arith, g .few, f .shape .m-most);
+        inside = omega (arith, f .scratch-long);
         whole = refl;
       };
       rows = record { n-most = f .shape .n-most; m-most = f .shape .m-most; size = f .store-long; below = r .below };
@@ -146,8 +114,3 @@ module _ (n m s : ℕ) (marks store scratch numbers : List ℕ) (first count : �
       → _≡_ {A = Rebuilt} (record { scratch = new; numbers = zeros; answer = Answer.Done }) (rebuildSpec n m s marks store scratch numbers first count)
   unfolding rebuildSpec
   rebuild-done new zeros e f h en ez = rw (e, f, le-ltb (holding marks) n h, en, ez)
-
--- a prefix of the array of zeros
-pub length-zeros : (e : ℕ) → e ≤ 32
-    → length {A = ℕ} (take {A = ℕ} e (0 ∷ 0 ∷ 0 ∷ 0 ∷ 0 ∷ 0 ∷ 0 ∷ 0 ∷ 0 ∷ 0 ∷ 0 ∷ 0 ∷ 0 ∷ 0 ∷ 0 ∷ 0 ∷ 0 ∷ 0 ∷ 0 ∷ 0 ∷ 0 ∷ 0 ∷ 0 ∷ 0 ∷ 0 ∷ 0 ∷ 0 ∷ 0 ∷ 0 ∷ 0 ∷ 0 ∷ 0 ∷ [])) ≡ e
-length-zeros e h = let l : List ℕ = 0 ∷ 0 ∷ 0 ∷ 0 ∷ 0 ∷ 0 ∷ 0 ∷ 0 ∷ 0 ∷ 0 ∷ 0 ∷ 0 ∷ 0 ∷ 0 ∷ 0 ∷ 0 ∷ 0 ∷ 0 ∷ 0 ∷ 0 ∷ 0 ∷ 0 ∷ 0 ∷ 0 ∷ 0 ∷ 0 ∷ 0 ∷ 0 ∷ 0 ∷ 0 ∷ 0 ∷ 0 ∷ [] in length-take-le e l h

@@ -13,7 +13,7 @@ use borrow.Author.Tests.{ne-eqb, le-ltb, ltb-false}
 use Rattle.cauchy.proofs.blocks.BlockLaws.{joined-ext, wordBytes-ext, word-back}
 use Rattle.cauchy.proofs.decoding.Known.{length-held, held-take, held-one}
 use Rattle.cauchy.proofs.blocks.Filled.{read-filled, length-filled, getD-filled}
-use Rattle.cauchy.proofs.sums.SumLaws.{word-part}
+use Rattle.cauchy.proofs.ranges.RangeLaws.{word-part}
 use Rattle.cauchy.specs.Laws.{Enough}
 use Rattle.cauchy.proofs.columns.EndLaws.{enough, fine}
 use Rattle.little.proofs.Laws.{testLaws}

@@ -223,12 +223,12 @@ held-row k c (suc a ∷ ms) (d ∷ ds) = ap (bitXor (mul (inv (bitXor k c)) d)) 
 
 -- ---- the right sides
 
-length-sides : (n m s : ℕ) (marks store : List ℕ) (w : ℕ) (ks : List ℕ) → length (sides n m s marks store w ks) ≡ length ks
+pub length-sides : (n m s : ℕ) (marks store : List ℕ) (w : ℕ) (ks : List ℕ) → length (sides n m s marks store w ks) ≡ length ks
 unfolding sides
 length-sides n m s marks store w [] = refl
 length-sides n m s marks store w (k ∷ ks) = ap suc (length-sides n m s marks store w ks)
 
-getD-sides : (n m s : ℕ) (marks store : List ℕ) (w : ℕ) (ks : List ℕ) (i : ℕ) → i < length ks → getD (sides n m s marks store w ks) i 0 ≡ side n m s marks store w (getD ks i 0)
+pub getD-sides : (n m s : ℕ) (marks store : List ℕ) (w : ℕ) (ks : List ℕ) (i : ℕ) → i < length ks → getD (sides n m s marks store w ks) i 0 ≡ side n m s marks store w (getD ks i 0)
 unfolding sides
 getD-sides n m s marks store w [] i h = absurd (omega arith)
 getD-sides n m s marks store w (k ∷ ks) zero h = refl

@@ -10,7 +10,7 @@ use native.Mathlib.Decide.{ℕ-discrete}
 use Rattle.cauchy.specs.inner.System.{Ops, field, dot, zeros, reduce, back, first, extend}
 use lib.Bits.{bitXor}
 use Rattle.gf16.specs.Field.{mul, inv}
-use Rattle.cauchy.specs.inner.Promises.{Below, forward, backward, RowTakenOff, UnknownFound, Ready, reduceOne, scaleOne, termOne}
+use Rattle.cauchy.specs.inner.Promises.{Below, forward, backward, RowTakenOff, UnknownFound, reduceOne, scaleOne, termOne}
 use Rattle.cauchy.proofs.algebra.SystemLaws.{getD-reduce, getD-back, length-reduce, length-back}
 
 module _ (R : Ops) where
@@ -180,17 +180,17 @@ pub record Finding (b : ℕ) (xs ys : List ℕ) (t k : ℕ) (a a′ : List ℕ) 
   pub made : (i : ℕ) → k ≤ i → i < length xs → getD a′ i 0 ≡ scaleOne (getD xs t 0) (getD ys t 0) (getD ys i 0) (getD a i 0)
   pub sum : acc ≡ dot field (getD xs t 0) (drop k ys) (drop k a′)
 
-pub finding-start : (b : ℕ) (xs ys : List ℕ) (t : ℕ) (a : List ℕ) → Ready b xs ys a → 0 < b → t < length xs → Finding b xs ys t (length xs) a a 0
+pub finding-start : (b : ℕ) (xs ys : List ℕ) (t : ℕ) (a : List ℕ) → length ys ≡ length xs → length a ≡ length xs → Below b a → 0 < b → t < length xs → Finding b xs ys t (length xs) a a 0
 unfolding dot
-finding-start b xs ys t a q hb h = record {
-  size = q .a-size;
-  below = q .a-below;
+finding-start b xs ys t a ly la w hb h = record {
+  size = la;
+  below = w;
   past = h;
   within = omega arith;
   small = hb;
   kept = λ i m. refl;
   made = λ i m n. absurd (omega arith);
-  sum = sym (ap (λ (l : List ℕ). dot field (getD xs t 0) l (drop (length xs) a)) (drop-of-length-le ys {i = length xs} (omega (arith, q .ys-size))));
+  sum = sym (ap (λ (l : List ℕ). dot field (getD xs t 0) l (drop (length xs) a)) (drop-of-length-le ys {i = length xs} (omega arith)));
 }
 
 pub finding-turn : (b : ℕ) (xs ys : List ℕ) (t k : ℕ) (a a′ : List ℕ) (acc v acc′ : ℕ) → length ys ≡ length xs → Finding b xs ys t (k + 1) a a′ acc → t < k → v < b → acc′ < b
@@ -245,7 +245,3 @@ pub finding-last : (b : ℕ) (xs ys : List ℕ) (t K : ℕ) (a a′ : List ℕ) 
 finding-last b xs ys t K a a′ acc r T h m er =
     let e : K ≡ t + 1 = omega (arith, T .past) in
     finding-end b xs ys t a a′ acc r (subst (λ (n : ℕ). Finding b xs ys t n a a′ acc) e T) m er
-
--- the arrays stay ready
-pub ready-after : (b : ℕ) (xs ys a a′ : List ℕ) → Ready b xs ys a → length a′ ≡ length xs → Below b a′ → Ready b xs ys a′
-ready-after b xs ys a a′ q l w = record { ys-size = q .ys-size; a-size = l; xs-below = q .xs-below; ys-below = q .ys-below; a-below = w }

@@ -1,35 +1,70 @@
 -- `find_unknown` meets its contract. Assumes nothing.
+use mathlib.Core.List.{List}
+use mathlib.Core.Path.{_≡_, refl}
+use Prim.Native.Nat.{ℕ, _+_, _-_, _*_, _≤_, _<_}
+use native.Mathlib.Nat.{add-sub-cancel-left}
 use native.Mathlib.Omega.{arith}
-use mathlib.Core.Path.{sym, _∙_}
-use lib.ListN.{length-set}
+use lib.ListN.{length}
 use borrow.Author.Needs.{needs}
+use Rattle.cauchy.proofs.ranges.RangeLaws.{range-in}
+use Rattle.cauchy.specs.inner.Ranges.{Columns, columned}
+use Rattle.cauchy.proofs.solver.StepLaws.{Found, found-start, found-turn, found-end}
 use Rattle.cauchy.proofs.solver.find_unknown.Statement.{statement}
 use Rattle.cauchy.proofs.solver.find_unknown.Tie as tie
-use Rattle.cauchy.proofs.solver.Passes.{Finding, finding-start, finding-down, finding-last, set-below}
 
 abbrev Inv-loop : tie.InvT-loop
-Inv-loop xs ys a₀ t k₀ acc₀ a k acc = Finding 65536 xs ys t k a₀ a acc
+Inv-loop s first count t xs ys one₀ b₀ k₀ one b k = (t < k) × (k ≤ length xs) × (length b ≡ length b₀) × (length one ≡ length one₀) × ((cs : ℕ → List ℕ) (base : List ℕ) → Columns (length xs) cs → b₀ ≡ columned s first count (length xs) cs base → Found s first count xs ys t k cs base b one)
 
 abbrev μ-loop : tie.MeasureT-loop
-μ-loop xs ys a₀ t k₀ acc₀ a k acc = k
+μ-loop s first count t xs ys one₀ b₀ k₀ one b k = k
 
 loop-holds : tie.Need-loop-holds Inv-loop μ-loop
-loop-holds c = let s = c .before .before .before in finding-start 65536 (s .args .xs .now) (s .args .ys .now) (s .args .t) (s .args .a .now) (s .pre .0) (omega arith) (s .pre .1)
+loop-holds c =
+    let q = c .before .before .before .before .before .before .before .before in
+    let a = q .args in
+    let r = q .pre .0 in
+    (q .pre .2, omega arith, refl, refl, λ cs base whole here. found-start (a .s) (a .first) (a .count) (length (a .one .now)) (length (a .b .now)) (a .xs .now) (a .ys .now) r (λ i. c .before .before .before .before .before .before .before .shared-slice-known .given i .fits) (λ i. c .before .before .before .before .before .before .shared-slice-known2 .given i .fits) (q .pre .1) (a .t) (q .pre .2) cs base whole (length (a .one .now)) (a .b .now) _ here (c .before .before .clear8 .ensures) (r .whole))
+
+part-put-back-end : tie.Need-part-put-back-end Inv-loop μ-loop
+part-put-back-end c =
+    let q = c .before .before .before .before .before .before .before .before .before .before .before .before .before .before .before in
+    let a = q .args in
+    let r = q .pre .0 in
+    let l = c .before .before .before .before .before .before .loop in
+    omega (arith, r, range-in (a .s) (a .first) (a .count) (length (a .xs .now)) (length (a .one .now)) (length (a .b .now)) (l .k - 1) r (omega arith), c .before .before .before .before .range-at .ensures .0, l .inv .2)
 
 loop-again : tie.Need-loop-again Inv-loop μ-loop
-loop-again c = let s = c .before .before .before .before .before .before .before .before .before .before .before .before .before in let l = c .before .before .before .before .before .before .before .before .before .loop in
-    finding-down 65536 (s .args .xs .now) (s .args .ys .now) (s .args .t) (l .k) (s .args .a .now) (l .a) (l .acc) (c .before .before .before .scaled .result) (c .plus-term .result)
-    (s .pre .0 .ys-size) (l .inv) (omega arith) (c .before .before .before .scaled .ensures .1) (c .plus-term .ensures .1) (c .before .before .before .scaled .ensures .0) (c .plus-term .ensures .0)
+loop-again c =
+    let q = c .before .before .before .before .before .before .before .before .before .before .before .before .before .before .before .before .before .before .before .before .before in
+    let a = q .args in
+    let r = q .pre .0 in
+    let l = c .before .before .before .before .before .before .before .before .before .before .before .before .loop in
+    let at = c .before .before .before .before .before .before .before .before .before .before .range-at .result in (
+      omega arith,
+      omega arith,
+      search needs,
+      search needs,
+      λ cs base whole here. found-turn (a .s) (a .first) (a .count) (length (a .one .now)) (length (a .b .now)) (a .xs .now) (a .ys .now) r (λ i. c .before .before .before .before .before .before .before .before .before .before .before .before .before .before .before .before .before .before .before .before .shared-slice-known .given i .fits) (λ i. c .before .before .before .before .before .before .before .before .before .before .before .before .before .before .before .before .before .before .before .shared-slice-known2 .given i .fits) (q .pre .1) (a .t) (q .pre .2) cs base whole (l .k) at (at + 2 * a .count - at) (l .one) (l .b) (l .inv .2) (add-sub-cancel-left at (2 * a .count))
+          (l .inv .4 cs base whole here) (omega arith) (c .before .before .before .before .before .before .before .before .before .before .range-at .ensures .0) _ _ (c .before .before .before .before .put-back .ensures .0) (c .before .before .before .before .put-back .ensures .1),
+    )
 
-same-length : tie.Need-same-length Inv-loop μ-loop
-same-length c = let s = c .before .before .before .before .before .before .before .before .before in let l = c .before .before .before .before .before .loop in
-    length-set (l .a) (s .args .t) (c .solved .result) ∙ l .inv .size ∙ sym (s .pre .0 .a-size)
+part-mix-end : tie.Need-part-mix-end Inv-loop μ-loop
+part-mix-end c =
+    let q = c .before .before .before .before .before .before .before .before .before .before .before .before .before in
+    let a = q .args in
+    let r = q .pre .0 in
+    let l = c .before .before .before .before .loop in
+    omega (arith, r, range-in (a .s) (a .first) (a .count) (length (a .xs .now)) (length (a .one .now)) (length (a .b .now)) (a .t) r (q .pre .2), c .before .before .range-at2 .ensures .0, l .inv .2)
 
 returns : tie.Need-returns Inv-loop μ-loop
-returns c = let s = c .before .before .before .before .before .before .before .before .before in let l = c .before .before .before .before .before .loop in (
-  finding-last 65536 (s .args .xs .now) (s .args .ys .now) (s .args .t) (l .k) (s .args .a .now) (l .a) (l .acc) (c .solved .result) (l .inv) (omega arith) (s .pre .1) (c .solved .ensures .0),
-  set-below 65536 (l .a) (s .args .t) (c .solved .result) (l .inv .below) (c .solved .ensures .1),
-)
+returns c cs base whole here =
+    let q = c .before .before .before .before .before .before .before .before .before .before .before .before .before .before .before .before .before .before in
+    let a = q .args in
+    let r = q .pre .0 in
+    let l = c .before .before .before .before .before .before .before .before .before .loop in
+    let at = c .before .before .before .before .before .before .before .range-at2 .result in
+    found-end (a .s) (a .first) (a .count) (length (a .one .now)) (length (a .b .now)) (a .xs .now) (a .ys .now) r (λ i. c .before .before .before .before .before .before .before .before .before .before .before .before .before .before .before .before .before .shared-slice-known .given i .fits) (λ i. c .before .before .before .before .before .before .before .before .before .before .before .before .before .before .before .before .shared-slice-known2 .given i .fits) (q .pre .1) (a .t) (q .pre .2) cs base whole (l .k) at (at + 2 * a .count - at) (l .one) (l .b) (l .inv .2) (add-sub-cancel-left at (2 * a .count))
+    (l .inv .4 cs base whole here) (omega arith) (c .before .before .before .before .before .before .before .range-at2 .ensures .0) _ (c .before .before .mix .ensures)
 
 pub find-unknown-spec : {M : Type 1} → statement M
 find-unknown-spec =
@@ -37,17 +72,10 @@ find-unknown-spec =
     (tie.spec
     Inv-loop
     μ-loop
+    (λ c κs. search needs)
     loop-holds
     (λ c. search needs)
     (λ c. search needs)
-    (λ c. search needs)
-    (λ c. search needs)
-    (λ c. search needs)
-    (λ c. search needs)
-    (λ c. search needs)
-    (λ c. search needs)
-    (λ c. search needs)
-    (λ c. search needs)
     (λ c κs. search needs)
     (λ c. search needs)
     (λ c. search needs)
@@ -55,17 +83,25 @@ find-unknown-spec =
     (λ c. search needs)
     (λ c. search needs)
     (λ c. search needs)
+    (λ c. search needs)
+    (λ c. search needs)
+    (λ c. search needs)
+    (λ c. search needs)
+    part-put-back-end
     (λ c κs. search needs)
     (λ c. search needs)
     loop-again
-    (λ c. search needs)
-    (λ c. search needs)
-    (λ c. search needs)
-    (λ c. search needs)
-    (λ c. search needs)
-    (λ c. search needs)
     (λ c κs. search needs)
     (λ c. search needs)
     (λ c. search needs)
-    same-length
+    (λ c. search needs)
+    (λ c. search needs)
+    (λ c. search needs)
+    (λ c. search needs)
+    (λ c. search needs)
+    (λ c. search needs)
+    part-mix-end
+    (λ c κs. search needs)
+    (λ c. search needs)
+    (λ c. search needs)
     returns)

@@ -1,53 +1,62 @@
--- `cauchy::solver::pass_backward` meets its contract. The loop's invariant is `Backward`. Assumes nothing.
-use mathlib.Core.Path.{_≡_, subst}
+-- `pass_backward` meets its contract. Assumes nothing.
+use mathlib.Core.Path.{_≡_, refl, _∙_, subst}
 use Prim.Native.Nat.{ℕ, suc, _-_, _≤_}
 use native.Mathlib.Omega.{arith}
-use borrow.Author.Needs.{needs}
 use lib.ListN.{length}
+use borrow.Author.Needs.{needs}
+use Rattle.cauchy.proofs.solver.Passes.{Backward, backward-start, backward-next, backward-end}
+use Rattle.cauchy.proofs.ranges.RangeLaws.{room-for}
+use Rattle.cauchy.specs.inner.Promises.{UnknownFound}
+use Rattle.cauchy.specs.inner.System.{field}
+use Rattle.cauchy.specs.inner.Ranges.{Steps}
+use Rattle.cauchy.proofs.solver.ColumnLaws.{steps-start, steps-so, steps-then}
 use Rattle.cauchy.proofs.solver.pass_backward.Statement.{statement}
 use Rattle.cauchy.proofs.solver.pass_backward.Tie as tie
-use Rattle.cauchy.specs.inner.Promises.{Below}
-use Rattle.cauchy.proofs.solver.Passes.{Backward, backward-start, backward-next, backward-end, ready-after}
-use Rattle.cauchy.specs.inner.System.{field}
 
 abbrev Inv-loop : tie.InvT-loop
-Inv-loop xs ys a₀ t₀ a t = Backward field xs ys a₀ t a × Below 65536 a × (t ≤ length xs)
+Inv-loop s first count xs ys one₀ b₀ t₀ one b t = (t ≤ length xs) × (length one ≡ length one₀) × (length b ≡ length b₀) × Steps (λ a a′. Backward field xs ys a t a′) s first count (length xs) b₀ b
 
 abbrev μ-loop : tie.MeasureT-loop
-μ-loop xs ys a₀ t₀ a t = t
+μ-loop s first count xs ys one₀ b₀ t₀ one b t = t
 
 loop-holds : tie.Need-loop-holds Inv-loop μ-loop
 loop-holds c =
-    let s = c .before .before .before in
-    (backward-start field (s .args .xs .now) (s .args .ys .now) (s .pre .ys-size) (s .args .a .now) (s .pre .a-size), s .pre .a-below, omega arith)
+    let q = c .before .before .before .before in
+    let a = q .args in
+    let r = q .pre .0 in
+    (omega arith, refl, refl, steps-start (a .s) (a .first) (a .count) (length (a .xs .now)) (r .words) _ (a .b .now) (λ x l. backward-start field (a .xs .now) (a .ys .now) (q .pre .1) x l))
 
 find-unknown-requires : tie.Need-find-unknown-requires Inv-loop μ-loop
 find-unknown-requires c κs =
-    let s = c .before .before .before .before .before .before in
-    let l = c .before .before .loop in
-    (ready-after 65536 (s .args .xs .now) (s .args .ys .now) (s .args .a .now) (l .a) (s .pre) (l .inv .0 .size) (l .inv .1), omega arith)
+    let q = c .before .before .before .before .before .before .before .before in
+    let a = q .args in
+    let r = q .pre .0 in
+    let l = c .before .before .before .loop in
+    (room-for (a .s) (a .first) (a .count) (length (a .xs .now)) _ _ _ _ _ r refl (l .inv .1 ∙ r .whole) (l .inv .2), q .pre .1, omega arith)
 
 loop-again : tie.Need-loop-again Inv-loop μ-loop
 loop-again c =
-    let s = c .before .before .before .before .before .before .before .before .before in
-    let l = c .before .before .before .before .before .loop in
-    let r = c .before .before .find-unknown .ensures in
+    let q = c .before .before .before .before .before .before .before .before .before .before .before .before .before in
+    let a = q .args in
+    let r = q .pre .0 in
+    let l = c .before .before .before .before .before .before .before .before .loop in
     let e : l .t ≡ suc (l .t - 1) = omega arith in (
-      backward-next field (s .args .xs .now) (s .args .ys .now) (s .pre .ys-size) (s .args .a .now) (l .t - 1) (l .a) _ (s .pre .a-size) (omega arith)
-          (subst (λ (n : ℕ). Backward field (s .args .xs .now) (s .args .ys .now) (s .args .a .now) n (l .a)) e (l .inv .0)) (r .0),
-      r .1,
       omega arith,
+      search needs,
+      search needs,
+      steps-then (a .s) (a .first) (a .count) (length (a .xs .now)) (r .words) (λ x y. Backward field (a .xs .now) (a .ys .now) x (l .t) y) (UnknownFound field (a .xs .now) (a .ys .now) (l .t - 1)) _ (a .b .now) (l .b) _
+          (λ x y z k f g. backward-next field (a .xs .now) (a .ys .now) (q .pre .1) x (l .t - 1) y z k (omega arith) (subst (λ (n : ℕ). Backward field (a .xs .now) (a .ys .now) x n y) e f) g) (l .inv .3) (c .before .before .before .before .find-unknown .ensures),
     )
 
 returns : tie.Need-returns Inv-loop μ-loop
 returns c =
-    let s = c .before .before .before .before .before in
+    let q = c .before .before .before .before .before .before in
+    let a = q .args in
+    let r = q .pre .0 in
     let l = c .before .loop in
-    let e : l .t ≡ 0 = omega arith in (
-      backward-end field (s .args .xs .now) (s .args .ys .now) (s .pre .ys-size) (s .args .a .now) (l .a)
-          (subst (λ (n : ℕ). Backward field (s .args .xs .now) (s .args .ys .now) (s .args .a .now) n (l .a)) e (l .inv .0)),
-      ready-after 65536 (s .args .xs .now) (s .args .ys .now) (s .args .a .now) (l .a) (s .pre) (l .inv .0 .size) (l .inv .1),
-    )
+    let e : l .t ≡ 0 = omega arith in
+    steps-so (a .s) (a .first) (a .count) (length (a .xs .now)) (r .words) (λ x y. Backward field (a .xs .now) (a .ys .now) x (l .t) y) _ (a .b .now) (l .b)
+    (λ x y k f. backward-end field (a .xs .now) (a .ys .now) (q .pre .1) x y (subst (λ (n : ℕ). Backward field (a .xs .now) (a .ys .now) x n y) e f)) (l .inv .3)
 
 pub pass-backward-spec : {M : Type 1} → statement M
 pass-backward-spec =
@@ -60,5 +69,6 @@ pass-backward-spec =
     find-unknown-requires
     (λ c. search needs)
     loop-again
+    (λ c. search needs)
     (λ c. search needs)
     returns)

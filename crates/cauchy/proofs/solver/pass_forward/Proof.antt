@@ -1,48 +1,62 @@
--- `cauchy::solver::pass_forward` meets its contract. The loop's invariant is `Forward`. Assumes nothing.
+-- `pass_forward` meets its contract. Assumes nothing.
+use mathlib.Core.Path.{_≡_, refl, _∙_}
 use Prim.Native.Nat.{_-_, _≤_}
-use mathlib.Core.Path.{_≡_}
-use native.Mathlib.Omega.{arith}
 use native.Mathlib.Numerals.{add-one}
-use borrow.Author.Needs.{needs}
+use native.Mathlib.Omega.{arith}
 use lib.ListN.{length}
+use borrow.Author.Needs.{needs}
+use Rattle.cauchy.proofs.solver.Passes.{Forward, forward-start, forward-next, forward-end}
+use Rattle.cauchy.proofs.ranges.RangeLaws.{room-for}
+use Rattle.cauchy.specs.inner.Promises.{RowTakenOff}
+use Rattle.cauchy.specs.inner.System.{field}
+use Rattle.cauchy.specs.inner.Ranges.{Steps}
+use Rattle.cauchy.proofs.solver.ColumnLaws.{steps-start, steps-so, steps-then}
 use Rattle.cauchy.proofs.solver.pass_forward.Statement.{statement}
 use Rattle.cauchy.proofs.solver.pass_forward.Tie as tie
-use Rattle.cauchy.specs.inner.Promises.{Below}
-use Rattle.cauchy.proofs.solver.Passes.{Forward, forward-start, forward-next, forward-end, ready-after}
-use Rattle.cauchy.specs.inner.System.{field}
 
 abbrev Inv-loop : tie.InvT-loop
-Inv-loop xs ys a₀ t₀ a t = Forward field xs ys a₀ t a × Below 65536 a × (t ≤ length xs)
+Inv-loop s first count xs ys one₀ b₀ t₀ one b t = (t ≤ length xs) × (length one ≡ length one₀) × (length b ≡ length b₀) × Steps (λ a a′. Forward field xs ys a t a′) s first count (length xs) b₀ b
 
 abbrev μ-loop : tie.MeasureT-loop
-μ-loop xs ys a₀ t₀ a t = length xs - t
+μ-loop s first count xs ys one₀ b₀ t₀ one b t = length xs - t
 
 loop-holds : tie.Need-loop-holds Inv-loop μ-loop
 loop-holds c =
-    let s = c .before .before .before in
-    (forward-start field (s .args .xs .now) (s .args .ys .now) (s .pre .ys-size) (s .args .a .now) (s .pre .a-size), s .pre .a-below, omega arith)
+    let q = c .before .before .before .before in
+    let a = q .args in
+    let r = q .pre .0 in
+    (omega arith, refl, refl, steps-start (a .s) (a .first) (a .count) (length (a .xs .now)) (r .words) _ (a .b .now) (λ x l. forward-start field (a .xs .now) (a .ys .now) (q .pre .1) x l))
 
 take-off-row-requires : tie.Need-take-off-row-requires Inv-loop μ-loop
 take-off-row-requires c κs =
-    let s = c .before .before .before .before .before .before in
-    let l = c .before .before .loop in
-    (ready-after 65536 (s .args .xs .now) (s .args .ys .now) (s .args .a .now) (l .a) (s .pre) (l .inv .0 .size) (l .inv .1), search needs)
+    let q = c .before .before .before .before .before .before .before .before in
+    let a = q .args in
+    let r = q .pre .0 in
+    let l = c .before .before .before .loop in
+    (room-for (a .s) (a .first) (a .count) (length (a .xs .now)) _ _ _ _ _ r refl (l .inv .1 ∙ r .whole) (l .inv .2), q .pre .1, c .before .before .loop-test .taken)
 
 loop-again : tie.Need-loop-again Inv-loop μ-loop
 loop-again c =
-    let s = c .before .before .before .before .before .before .before .before .before in
-    let l = c .before .before .before .before .before .loop in
-    let r = c .before .before .take-off-row .ensures in
-    (rw (add-one (l .t)) (forward-next field (s .args .xs .now) (s .args .ys .now) (s .pre .ys-size) (s .args .a .now) (l .t) (l .a) _ (omega arith) (l .inv .0) (r .0)), r .1, omega arith)
+    let q = c .before .before .before .before .before .before .before .before .before .before .before .before .before in
+    let a = q .args in
+    let r = q .pre .0 in
+    let l = c .before .before .before .before .before .before .before .before .loop in (
+      omega arith,
+      search needs,
+      search needs,
+      steps-then (a .s) (a .first) (a .count) (length (a .xs .now)) (r .words) (λ x y. Forward field (a .xs .now) (a .ys .now) x (l .t) y) (RowTakenOff field (a .xs .now) (a .ys .now) (l .t)) _ (a .b .now) (l .b) _
+          (λ x y z k f g. rw (add-one (l .t)) (forward-next field (a .xs .now) (a .ys .now) (q .pre .1) x (l .t) y z (c .before .before .before .before .before .before .before .loop-test .taken) f g)) (l .inv .3) (c .before .before .before .before .take-off-row .ensures),
+    )
 
 returns : tie.Need-returns Inv-loop μ-loop
 returns c =
-    let s = c .before .before .before .before .before in
+    let q = c .before .before .before .before .before .before in
+    let a = q .args in
+    let r = q .pre .0 in
     let l = c .before .loop in
-    let e : l .t ≡ length (s .args .xs .now) = omega arith in (
-      forward-end field (s .args .xs .now) (s .args .ys .now) (s .pre .ys-size) (s .args .a .now) (l .a) (rw e at (l .inv .0)),
-      ready-after 65536 (s .args .xs .now) (s .args .ys .now) (s .args .a .now) (l .a) (s .pre) (l .inv .0 .size) (l .inv .1),
-    )
+    let e : l .t ≡ length (a .xs .now) = omega arith in
+    steps-so (a .s) (a .first) (a .count) (length (a .xs .now)) (r .words) (λ x y. Forward field (a .xs .now) (a .ys .now) x (l .t) y) _ (a .b .now) (l .b)
+    (λ x y k f. forward-end field (a .xs .now) (a .ys .now) (q .pre .1) x y (rw e at f)) (l .inv .3)
 
 pub pass-forward-spec : {M : Type 1} → statement M
 pass-forward-spec =
@@ -55,5 +69,6 @@ pass-forward-spec =
     (λ c. search needs)
     (λ c. search needs)
     loop-again
+    (λ c. search needs)
     (λ c. search needs)
     returns)

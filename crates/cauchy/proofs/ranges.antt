@@ -1,0 +1,2 @@
+-- The laws of ranges of words: where they lie.
+pub mod RangeLaws

@@ -1,0 +1,3 @@
+-- The laws of the right sides.
+pub mod HeldLaws
+pub mod SideLaws

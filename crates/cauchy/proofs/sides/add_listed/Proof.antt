@@ -1,0 +1,31 @@
+-- `add_listed` meets its contract. Assumes nothing.
+use borrow.Author.Needs.{needs}
+use Rattle.cauchy.proofs.sides.add_listed.Statement.{statement}
+use Rattle.cauchy.proofs.sides.add_listed.Tie as tie
+
+returns : tie.Need-returns
+returns c =
+    rw (c .before .before .before .before .before .before .before .before .before .before .entry .ensures, c .before .before .before .before .before .before .before .before .entry2 .ensures, c .before .before .before .before .before .before .entry3 .ensures, c .before .before .before .before .entry4 .ensures) at (c .before .before .add-block .ensures)
+
+pub add-listed-spec : {M : Type 1} → statement M
+add-listed-spec =
+    tie.close
+    (tie.spec
+    (λ c. search needs)
+    (λ c. search needs)
+    (λ c κs. search needs)
+    (λ c. search needs)
+    (λ c. search needs)
+    (λ c. search needs)
+    (λ c κs. search needs)
+    (λ c. search needs)
+    (λ c. search needs)
+    (λ c. search needs)
+    (λ c κs. search needs)
+    (λ c. search needs)
+    (λ c. search needs)
+    (λ c. search needs)
+    (λ c κs. search needs)
+    (λ c κs. search needs)
+    (λ c. search needs)
+    returns)

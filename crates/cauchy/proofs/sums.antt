@@ -1,3 +1,0 @@
--- The laws of the sums over held blocks.
-pub mod RangeLaws
-pub mod SumLaws
