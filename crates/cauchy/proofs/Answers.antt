@@ -8,7 +8,7 @@ use lib.Dec.{ltb, eqb}
 use Rattle.little.specs.Said.{Said, refused, says}
 use Rattle.little.proofs.Laws.{saidLaws}
 use Rattle.cauchy.specs.Decode.{holding}
-use Rattle.cauchy.specs.Calls.{wrongShape, wrongLent, recovered, recoverySpec, wrongParts, partsSpec, wrongFour, fourSpec, wrongMemory, rebuilt, rebuildSpec, rebuildAllSpec}
+use Rattle.cauchy.specs.Calls.{wrongShape, wrongLent, recovered, recoverySpec, wrongFour, fourSpec, wrongMemory, rebuilt, rebuildSpec, rebuildAllSpec}
 use Rattle.cauchy.specs.Answers.{answerSaid, Answers}
 use Rattle.cauchy.specs.declared.Answer.{Answer}
 
@@ -32,11 +32,6 @@ recovery : (n m s k : ℕ) (blocks out : List ℕ) → answerSaid (recoverySpec 
     ≡ cond (wrongShape n m s || wrongLent n m s k blocks out) (refused 71) (says "done" [])
 unfolding recoverySpec
 recovery n m s k blocks out = recovery-says (wrongShape n m s || wrongLent n m s k blocks out) _ _
-
-parts : (n m s k : ℕ) (front last out : List ℕ) → answerSaid (partsSpec n m s k front last out .answer)
-    ≡ cond (wrongShape n m s || wrongParts n m s k front last out) (refused 71) (says "done" [])
-unfolding partsSpec
-parts n m s k front last out = recovery-says (wrongShape n m s || wrongParts n m s k front last out) _ _
 
 four : (n m s k : ℕ) (front last out : List ℕ) → answerSaid (fourSpec n m s k front last out .answer)
     ≡ cond (wrongShape n m s || wrongFour n m s k front last out) (refused 71) (says "done" [])
@@ -72,7 +67,6 @@ answer-back Answer.TooFew = refl
 pub answers : Answers
 answers = record {
   recovery = recovery;
-  parts = parts;
   four = four;
   rebuild = rebuild;
   rebuild-all = rebuild-all;

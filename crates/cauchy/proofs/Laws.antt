@@ -3,6 +3,7 @@ use Rattle.cauchy.specs.Laws.{CodeLaws, MissingLaws}
 use Rattle.cauchy.proofs.shape.ShapeLaws.{right}
 use Rattle.cauchy.proofs.blocks.BlockLaws.{joined-ext, length-wordBytes}
 use Rattle.cauchy.proofs.blocks.CodeLaws.{length-code, length-recovery}
+use Rattle.cauchy.proofs.encode.RunLaws.{joined-append, joined-one}
 use Rattle.cauchy.proofs.decoding.Known.{length-held, held-one, held-none, held-take, missing-at, length-missing}
 use Rattle.cauchy.proofs.decoding.UsedLaws.{as-decoded}
 use Rattle.cauchy.proofs.marks.ListLaws.{missing-more, missing-same}
@@ -15,6 +16,8 @@ codeLaws = record {
   length-recovery = length-recovery;
   length-code = length-code;
   joined-ext = joined-ext;
+  joined-append = joined-append;
+  joined-one = joined-one;
 }
 
 pub missingLaws : MissingLaws

@@ -3,3 +3,4 @@ pub mod PackLaws
 pub mod TableLaws
 pub mod WordLaws
 pub mod MixtureLaws
+pub mod SummedLaws

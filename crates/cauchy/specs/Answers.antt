@@ -8,7 +8,7 @@ use lib.ListN.{length}
 use lib.Dec.{ltb}
 use Rattle.little.specs.Said.{Said, refused, says, Apart}
 use Rattle.cauchy.specs.Decode.{holding}
-use Rattle.cauchy.specs.Calls.{wrongShape, wrongLent, recoverySpec, wrongParts, partsSpec, wrongFour, fourSpec, wrongMemory, rebuildSpec, rebuildAllSpec}
+use Rattle.cauchy.specs.Calls.{wrongShape, wrongLent, recoverySpec, wrongFour, fourSpec, wrongMemory, rebuildSpec, rebuildAllSpec}
 use Rattle.cauchy.specs.declared.Answer.{Answer}
 
 -- what an answer says: that it is done, or its number
@@ -21,8 +21,6 @@ pub record Answers : Type 0 where
   -- recovery: 71 exactly if a house limit is passed, there is no block k, or what is lent has another length
   pub recovery : (n m s k : ℕ) (blocks out : List ℕ) → answerSaid (recoverySpec n m s k blocks out .answer)
       ≡ cond (wrongShape n m s || wrongLent n m s k blocks out) (refused 71) (says "done" [])
-  pub parts : (n m s k : ℕ) (front last out : List ℕ) → answerSaid (partsSpec n m s k front last out .answer)
-      ≡ cond (wrongShape n m s || wrongParts n m s k front last out) (refused 71) (says "done" [])
   pub four : (n m s k : ℕ) (front last out : List ℕ) → answerSaid (fourSpec n m s k front last out .answer)
       ≡ cond (wrongShape n m s || wrongFour n m s k front last out) (refused 71) (says "done" [])
   -- rebuilding: 71 likewise, and else 50 exactly if fewer than n are held

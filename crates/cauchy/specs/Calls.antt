@@ -2,7 +2,7 @@
 -- hand-out, prefix"); what that means is stated in specs/Theorems.antt. Assumes nothing: these are definitions.
 use mathlib.Core.Bool.{Bool, cond, not, _&&_, _||_}
 use mathlib.Core.List.{List, [], _∷_, _++_}
-use Prim.Native.Nat.{ℕ, zero, suc, _+_, _-_, _*_, _/_, _%_}
+use Prim.Native.Nat.{ℕ, zero, suc, _+_, _-_, _*_, _/_, _%_, min}
 use lib.ListN.{length, getD, drop}
 use lib.Dec.{ltb, leb, eqb}
 use Rattle.little.specs.Fields.{bytesOf}
@@ -35,33 +35,23 @@ recoverySpec n m s k blocks out =
     (recovered out Answer.BadShape)
     (recovered (recoveryBlock n m s blocks k) Answer.Done)
 
--- ---- recovery_of_parts
-
--- block k is none of the m, or what is lent, the last data block apart from those before it, has another length
-unfoldable pub wrongParts : ℕ → ℕ → ℕ → ℕ → List ℕ → List ℕ → List ℕ → Bool
-wrongParts n m s k front last out =
-    not (ltb k m) || not (eqb (length front) ((n - 1) * s)) || not (eqb (length last) s) || not (eqb (length out) s)
-
--- as `recovery` of the parts joined
-unfoldable pub partsSpec : ℕ → ℕ → ℕ → ℕ → List ℕ → List ℕ → List ℕ → Recovered
-partsSpec n m s k front last out =
-    cond (wrongShape n m s || wrongParts n m s k front last out)
-    (recovered out Answer.BadShape)
-    (recovered (recoveryBlock n m s (front ++ last) k) Answer.Done)
-
 -- ---- recovery_four
 
--- as for the parts, with room for four blocks
+-- how many recovery blocks there are from the k-th on, as far as four
+abbrev pub upToFour : ℕ → ℕ → ℕ
+upToFour m k = min 4 (m - k)
+
+-- block k is none of the m, or what is lent, the last data block apart from those before it, has another length
 unfoldable pub wrongFour : ℕ → ℕ → ℕ → ℕ → List ℕ → List ℕ → List ℕ → Bool
 wrongFour n m s k front last out =
-    not (ltb k m) || not (eqb (length front) ((n - 1) * s)) || not (eqb (length last) s) || not (eqb (length out) (4 * s))
+    not (ltb k m) || not (eqb (length front) ((n - 1) * s)) || not (eqb (length last) s) || not (eqb (length out) (upToFour m k * s))
 
--- the recovery blocks k to k + 3, one after the other; one from the m-th on is what the code's rule makes of its number
+-- those recovery blocks of the parts joined, one after the other
 unfoldable pub fourSpec : ℕ → ℕ → ℕ → ℕ → List ℕ → List ℕ → List ℕ → Recovered
 fourSpec n m s k front last out =
     cond (wrongShape n m s || wrongFour n m s k front last out)
     (recovered out Answer.BadShape)
-    (recovered (joined (λ r. recoveryBlock n m s (front ++ last) (k + r)) 0 4) Answer.Done)
+    (recovered (joined (λ r. recoveryBlock n m s (front ++ last) (k + r)) 0 (upToFour m k)) Answer.Done)
 
 -- ---- rebuild
 

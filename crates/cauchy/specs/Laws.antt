@@ -2,7 +2,7 @@
 -- missing, and what `decode` joins to. Statements, proved in proofs/Laws.antt; no other law of this crate is seen above.
 use mathlib.Core.Path.{_≡_}
 use mathlib.Core.Bool.{false}
-use mathlib.Core.List.{List}
+use mathlib.Core.List.{List, _++_}
 use Prim.Native.Nat.{ℕ, suc, _+_, _*_, _%_, _≤_, _<_}
 use lib.ListN.{length, getD, take, drop}
 use Rattle.little.specs.Parts.{block}
@@ -25,8 +25,10 @@ pub record CodeLaws : Type 0 where
   pub length-wordBytes : (f : ℕ → ℕ) (c n : ℕ) → length (wordBytes f c n) ≡ 2 * n
   pub length-recovery : (n m s : ℕ) (blocks : List ℕ) (k : ℕ) → s % 2 ≡ 0 → length (recoveryBlock n m s blocks k) ≡ s
   pub length-code : (n m s : ℕ) (blocks : List ℕ) (i : ℕ) → s % 2 ≡ 0 → length blocks ≡ n * s → length (codeBlock n m s blocks i) ≡ s
-  -- lists joined depend on each of them alone
+  -- lists joined depend on each of them alone; they are joined in two parts, and one of them is itself
   pub joined-ext : (f g : ℕ → List ℕ) (n : ℕ) → ((w : ℕ) → w < n → f w ≡ g w) → joined f 0 n ≡ joined g 0 n
+  pub joined-append : (f : ℕ → List ℕ) (c a b : ℕ) → joined f c (a + b) ≡ joined f c a ++ joined f (c + a) b
+  pub joined-one : (f : ℕ → List ℕ) (c : ℕ) → joined f c 1 ≡ f c
 
 -- no more data blocks are missing than recovery blocks are held
 pub record Enough (n m : ℕ) (marks : List ℕ) : Type 0 where

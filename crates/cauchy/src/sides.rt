@@ -1,31 +1,38 @@
 // The right sides of the equations, from the held blocks: the sums over data blocks are made four rows at a time.
-use crate::encode::entry;
 use crate::encode::put_one;
 use crate::limits::HELD;
 use crate::limits::MOST_WORDS;
 use crate::ranges::range_at;
+use crate::tables::ENTRIES;
 use crate::tables::add_block;
+use crate::tables::add_bytes;
 use crate::tables::clear_words;
-use crate::tables::mix;
+use crate::tables::weights;
 ghost use mathlib.Core.Path.{_≡_};
 ghost use Prim.Native.Nat.{_+_, _*_, _/_, _%_, _≤_, _<_};
 ghost use lib.ListN.{length, getD, take};
 ghost use lib.Bits.{bitXor};
 ghost use Rattle.cauchy.specs.Code.{mostData, mostRecovery, mostBlock, fieldSize, wordAt, wordBytes};
 ghost use Rattle.cauchy.specs.inner.Promises.{Room, Rows};
-ghost use Rattle.cauchy.specs.inner.Packed.{Added, Sums, weightOf, unitOf, heldRows, SumsFor};
+ghost use Rattle.cauchy.specs.inner.Packed.{Sized, Added, Sums, weightOf, unitOf, heldRows, SumsFor};
 ghost use Rattle.cauchy.specs.inner.Ranges.{sidesScratch};
 
 // Adds what data block j brings to the rows listed at i to i + 3.
-pub fn add_listed(m: usize, i: usize, j: usize, rows: &[u16], acc: &mut [u64], src: &[u8])
-    requires { ⌜ (i + 3 < length (now rows)) × (m + j < fieldSize) × (length (now src) ≡ 2 * length (now acc)) ⌝ }
-    ensures { λ _. ⌜ Added (weightOf (getD (now (rows .entry)) i 0) m j) (weightOf (getD (now (rows .entry)) (i + 1) 0) m j) (weightOf (getD (now (rows .entry)) (i + 2) 0) m j) (weightOf (getD (now (rows .entry)) (i + 3) 0) m j) (now (src .entry)) (now (acc .entry)) (now (acc .exit)) ⌝ }
+pub fn add_listed(
+    m: usize,
+    i: usize,
+    j: usize,
+    rows: &[u16],
+    acc: &mut [u64],
+    src: &[u8],
+    low: &mut [u64; ENTRIES],
+    high: &mut [u64; ENTRIES],
+)
+    requires { ⌜ (i + 3 < length (now rows)) × (m + j < fieldSize) × (length (now src) ≡ 2 * length (now acc)) × Sized (now low) (now high) ⌝ }
+    ensures { λ _. ⌜ Added (weightOf (getD (now (rows .entry)) i 0) m j) (weightOf (getD (now (rows .entry)) (i + 1) 0) m j) (weightOf (getD (now (rows .entry)) (i + 2) 0) m j) (weightOf (getD (now (rows .entry)) (i + 3) 0) m j) (now (src .entry)) (now (acc .entry)) (now (acc .exit)) × Sized (now (low .exit)) (now (high .exit)) ⌝ }
 {
-    let a = entry(rows[i], m, j);
-    let b = entry(rows[i + 1], m, j);
-    let c = entry(rows[i + 2], m, j);
-    let d = entry(rows[i + 3], m, j);
-    add_block(acc, src, a, b, c, d);
+    let x = weights(m, j, rows[i], rows[i + 1], rows[i + 2], rows[i + 3]);
+    add_block(acc, src, x, low, high);
 }
 
 // The shares of the held data blocks in the rows listed at i to i + 3. A block that is not held is not read.
@@ -43,6 +50,8 @@ pub fn sum_held(
     requires { ⌜ (n ≤ mostData) × (m ≤ mostRecovery) × (s ≤ mostBlock) × (s % 2 ≡ 0) × (first + length (now acc) ≤ s / 2) × (length (now marks) ≡ n + m) × (length (now store) ≡ (n + m) * s) × (i + 3 < length (now rows)) ⌝ }
     ensures { λ _. ⌜ Sums (heldRows n m s first (now (marks .entry)) (now (rows .entry)) (now (store .entry))) i (length (now (acc .entry))) (now (acc .exit)) ⌝ }
 {
+    let mut low = [0u64; ENTRIES];
+    let mut high = [0u64; ENTRIES];
     clear_words(acc);
     let mut j: usize = 0;
     while j < n {
@@ -51,7 +60,7 @@ pub fn sum_held(
         if marks[b] == HELD {
             let at = range_at(s, first, b);
             let end = at + 2 * acc.len();
-            add_listed(m, i, b, rows, acc, &store[at..end]);
+            add_listed(m, i, b, rows, acc, &store[at..end], &mut low, &mut high);
         }
     }
 }
@@ -82,7 +91,7 @@ pub fn put_side(acc: &[u64], r: usize, block: &[u8], out: &mut [u8])
     ensures { λ _. ⌜ now (out .exit) ≡ wordBytes (λ w. bitXor (getD (now (acc .entry)) w 0 / unitOf r % 65536) (wordAt (now (block .entry)) (2 * w))) 0 (length (now (acc .entry))) ⌝ }
 {
     put_one(acc, r, out);
-    mix(out, block, 1, 1);
+    add_bytes(out, block);
 }
 
 // The right sides of the rows listed, with sums lent: the held data blocks' shares, and the recovery block's own words.

@@ -14,7 +14,7 @@ saidNumber (says word values) = 0
 unfoldable pub numberOf : Answer → ℕ
 numberOf a = saidNumber (answerSaid a)
 
--- what `cauchy_recovery` leaves
+-- what `cauchy_recovery` and `cauchy_recovery_four` leave
 pub record RecoveryLeft : Type 0 where
   pub out : List ℕ
   pub answer : ℕ

@@ -2,8 +2,9 @@
 use cauchy::Answer;
 use cauchy::rebuild_all;
 use cauchy::recovery;
+use cauchy::recovery_four;
 ghost use mathlib.Core.Path.{_≡_};
-ghost use Rattle.cauchy.specs.Calls.{recoverySpec, rebuildAllSpec};
+ghost use Rattle.cauchy.specs.Calls.{recoverySpec, fourSpec, rebuildAllSpec};
 ghost use Rattle.cauchy_native.specs.Number.{numberOf, recoveryLeft, numberedRecovery, rebuildLeft, numberedRebuild};
 
 // 0 for done, 71 for a wrong shape, 50 for too few held.
@@ -30,6 +31,22 @@ pub extern "C" fn cauchy_recovery(
     ensures { λ r. ⌜ recoveryLeft (now (out .exit)) r ≡ numberedRecovery (recoverySpec n m s k (now (store .entry)) (now (out .entry))) ⌝ }
 {
     number(recovery(n, m, s, k, store, out))
+}
+
+// The recovery blocks from k on, up to four, into `out`; the last data block lies apart.
+#[no_mangle]
+pub extern "C" fn cauchy_recovery_four(
+    n: usize,
+    m: usize,
+    s: usize,
+    k: usize,
+    front: &[u8],
+    last: &[u8],
+    out: &mut [u8],
+) -> u8
+    ensures { λ r. ⌜ recoveryLeft (now (out .exit)) r ≡ numberedRecovery (fourSpec n m s k (now (front .entry)) (now (last .entry)) (now (out .entry))) ⌝ }
+{
+    number(recovery_four(n, m, s, k, front, last, out))
 }
 
 // The missing data blocks, rising, into scratch.

@@ -1,8 +1,9 @@
--- A product by a power of two is the product of numbers, as long as that is an element. Assumes nothing.
+-- A product by two in its bits; and by a power of two it is the product of numbers, as long as that is an element. Assumes nothing.
 use mathlib.Core.Path.{_≡_, refl, sym, ap, _∙_}
-use Prim.Native.Nat.{ℕ, zero, suc, _+_, _*_, _^_, _≤_, _<_}
-use native.Mathlib.Nat.{pow-suc, mul-assoc, mul-comm}
+use Prim.Native.Nat.{ℕ, zero, suc, _+_, _-_, _*_, _/_, _%_, _^_, _≤_, _<_}
+use native.Mathlib.Nat.{zero-add, pow-suc, mul-assoc, mul-comm}
 use native.Mathlib.Omega.{arith}
+use lib.Bits.{bitXor, xor-block}
 use lib.Pow.{pow-pos}
 use Rattle.gf16.specs.Field.{Elem, polynomial, scale, double, mulBits, mul}
 use Rattle.gf16.proofs.Linear.{same}
@@ -11,6 +12,24 @@ use Rattle.gf16.proofs.Ring as ring
 mul-two : (a : ℕ) → Elem a → mul a 2 ≡ double a
 unfolding mul mulBits double scale polynomial
 mul-two = same (λ a. mul a 2) (λ a. double a) (λ x y hx hy. ring.add-mul x y 2) (λ x y hx hy. ring.double-add x y) tt
+
+-- the product by two, with bit 15 apart
+double-parts : (q r : ℕ) → q < 2 → r < 2 ^ 15 → double (q * 2 ^ 15 + r) ≡ bitXor (2 * r) (q * (polynomial - 2 ^ 16))
+unfolding double scale polynomial
+double-parts zero r hq hr =
+    let e : 2 * (0 * 2 ^ 15 + r) ≡ 2 * r = omega arith in
+    let f : 2 * r / 2 ^ 16 % 2 ≡ 0 = omega arith in
+    rw (e, f)
+double-parts (suc zero) r hq hr =
+    let e : 2 * (1 * 2 ^ 15 + r) ≡ 1 * 2 ^ 16 + 2 * r = omega arith in
+    let f : (1 * 2 ^ 16 + 2 * r) / 2 ^ 16 % 2 ≡ 1 = omega arith in
+    rw (e, f) (xor-block 16 1 1 (2 * r) (polynomial - 2 ^ 16) (omega arith) (omega arith) ∙ zero-add (bitXor (2 * r) (polynomial - 2 ^ 16)))
+double-parts (suc (suc q)) r hq hr = absurd (omega arith)
+
+pub mul-double : (a : ℕ) → Elem a → mul a 2 ≡ bitXor (2 * (a % 2 ^ 15)) (a / 2 ^ 15 * (polynomial - 2 ^ 16))
+mul-double a h =
+    let e : a / 2 ^ 15 * 2 ^ 15 + a % 2 ^ 15 ≡ a = omega arith in
+    mul-two a h ∙ ap double (sym e) ∙ double-parts (a / 2 ^ 15) (a % 2 ^ 15) (omega arith) (omega arith)
 
 mul-twice : (a : ℕ) → 2 * a < 65536 → mul a 2 ≡ 2 * a
 mul-twice a h = mul-two a (omega arith) ∙ ring.double-small a h

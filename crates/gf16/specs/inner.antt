@@ -9,3 +9,7 @@ use Rattle.gf16.specs.Field.{inv}
 -- each entry is one over its place, and 0 at 0
 unfoldable pub ListsInverses : List ℕ → Type 0
 ListsInverses xs = (a : ℕ) → a < length xs → getD xs a 0 ≡ inv a
+
+-- how many the code's table has
+abbrev pub listedCount : ℕ
+listedCount = 1056

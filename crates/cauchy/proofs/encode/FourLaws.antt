@@ -62,17 +62,9 @@ parts-last n m s k front last acc acc′ p old new =
     ∙ share-turn m s r (front ++ last) (n - 1) w (p .even) h ∙ ap (λ (x : ℕ). firstShares m s r (front ++ last) x w) e)
     old new
 
--- the first of the four rows
-pub one-out : (n m s k : ℕ) (blocks acc out : List ℕ) → k + 4 ≤ 65536 → m + n ≤ 65536 → Sums (λ r w. recoveryWord n m s blocks r w) k (s / 2) acc
-    → out ≡ rowBytes 0 acc → out ≡ recoveryBlock n m s blocks k
+-- as many of the four rows as are wanted
+pub rows-out : (n m s k count : ℕ) (blocks acc out : List ℕ) → count ≤ 4 → k + 4 ≤ 65536 → m + n ≤ 65536 → Sums (λ r w. recoveryWord n m s blocks r w) k (s / 2) acc
+    → out ≡ joined (λ r. rowBytes r acc) 0 count → out ≡ joined (λ r. recoveryBlock n m s blocks (k + r)) 0 count
 unfolding recoveryBlock
-one-out n m s k blocks acc out hk hm sums e =
-    let z : k + 0 ≡ k = omega arith in
-    e ∙ row-out (λ r w. recoveryWord n m s blocks r w) k (s / 2) 0 acc (omega arith) (λ i w h. words-lt n m s i blocks w (omega arith) hm) sums ∙ ap (λ (r : ℕ). wordBytes (recoveryWord n m s blocks r) 0 (s / 2)) z
-
--- all four
-pub four-out : (n m s k : ℕ) (blocks acc out : List ℕ) → k + 4 ≤ 65536 → m + n ≤ 65536 → Sums (λ r w. recoveryWord n m s blocks r w) k (s / 2) acc
-    → out ≡ joined (λ r. rowBytes r acc) 0 4 → out ≡ joined (λ r. recoveryBlock n m s blocks (k + r)) 0 4
-unfolding recoveryBlock
-four-out n m s k blocks acc out hk hm sums e =
-    e ∙ joined-ext (λ r. rowBytes r acc) _ 4 (λ r h. row-out (λ r w. recoveryWord n m s blocks r w) k (s / 2) r acc h (λ i w q. words-lt n m s i blocks w (omega arith) hm) sums)
+rows-out n m s k count blocks acc out hc hk hm sums e =
+    e ∙ joined-ext (λ r. rowBytes r acc) _ count (λ r h. row-out (λ r w. recoveryWord n m s blocks r w) k (s / 2) r acc (omega arith) (λ i w q. words-lt n m s i blocks w (omega arith) hm) sums)

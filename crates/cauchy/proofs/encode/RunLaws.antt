@@ -9,7 +9,7 @@ use Rattle.little.specs.Parts.{put}
 use Rattle.little.proofs.Laws.{putLaws, blockLaws}
 use Rattle.cauchy.specs.Code.{joined}
 
-joined-append : (f : ℕ → List ℕ) (c a b : ℕ) → joined f c (a + b) ≡ joined f c a ++ joined f (c + a) b
+pub joined-append : (f : ℕ → List ℕ) (c a b : ℕ) → joined f c (a + b) ≡ joined f c a ++ joined f (c + a) b
 unfolding joined
 joined-append f c zero b = let e : 0 + b ≡ b = omega arith in let g : c ≡ c + 0 = omega arith in ap₂ (λ (i n : ℕ). joined f i n) g e
 joined-append f c (suc a) b =
@@ -19,7 +19,7 @@ joined-append f c (suc a) b =
     ∙ ap (λ (l : List ℕ). f c ++ l) (joined-append f (suc c) a b ∙ ap (λ (n : ℕ). joined f (suc c) a ++ joined f n b) g)
     ∙ sym (append-assoc (f c) (joined f (suc c) a) (joined f (c + suc a) b))
 
-joined-one : (f : ℕ → List ℕ) (c : ℕ) → joined f c 1 ≡ f c
+pub joined-one : (f : ℕ → List ℕ) (c : ℕ) → joined f c 1 ≡ f c
 unfolding joined
 joined-one f c = append-nil (f c)
 

@@ -1,12 +1,13 @@
 -- `recovery` meets its contract. Assumes nothing.
-use mathlib.Core.Path.{sym, _∙_}
+use mathlib.Core.Path.{refl, sym, _∙_}
 use Prim.Native.Nat.{_-_, _*_}
 use native.Mathlib.Omega.{arith}
+use lib.ListN.{length-take, length-replicate}
+use lib.Seq.{length-take-le}
 use borrow.Author.Needs.{needs}
 use Rattle.cauchy.specs.Calls.{wrongLent}
 use Rattle.cauchy.proofs.shape.ShapeLaws.{right, few}
-use Rattle.cauchy.proofs.CallLaws.{recovery-shape, recovery-lent, front-in, recovery-parted}
-use lib.Seq.{length-take-le}
+use Rattle.cauchy.proofs.CallLaws.{recovery-shape, recovery-lent, front-in, parted, recovery-done}
 use Rattle.cauchy.proofs.recovery.Statement.{statement}
 use Rattle.cauchy.proofs.recovery.Tie as tie
 
@@ -26,26 +27,36 @@ sub-front c = let a = c .before .before .before .before .before .args in let g =
 mul-front : tie.Need-mul-front
 mul-front c = let a = c .before .before .before .before .before .args in let g = right (a .n) (a .m) (a .s) (sym (c .before .before .wrong-shape .ensures) ∙ c .before .if1 .left) in omega (arith, few (a .n - 1) (a .s) (omega (arith, g)) (g .s-most))
 
-slice-aggregate-recovery-of-parts : tie.Need-slice-aggregate-recovery-of-parts
+slice-aggregate-put-blocks : tie.Need-slice-aggregate-put-blocks
 unfolding wrongLent
-slice-aggregate-recovery-of-parts c =
-    let a = c .before .before .before .before .before .before .args in
-    let l = front-in (a .n) (a .m) (a .s) (a .k) (a .store .now) (a .out .now) (sym (c .before .before .before .wrong-shape .ensures) ∙ c .before .before .if1 .left) (c .before .if2 .left) in
-    sym (length-take-le ((a .n - 1) * a .s) (a .store .now) (omega arith))
+slice-aggregate-put-blocks c = let a = c .before .before .before .before .before .before .args in let l = front-in (a .n) (a .m) (a .s) (a .k) (a .store .now) (a .out .now) (sym (c .before .before .before .wrong-shape .ensures) ∙ c .before .before .if1 .left) (c .before .if2 .left) in sym (length-take-le ((a .n - 1) * a .s) (a .store .now) (omega arith))
 
-sub-recovery-of-parts : tie.Need-sub-recovery-of-parts
+sub-put-blocks : tie.Need-sub-put-blocks
 unfolding wrongLent
-sub-recovery-of-parts c = let a = c .before .before .before .before .before .before .args in let l = front-in (a .n) (a .m) (a .s) (a .k) (a .store .now) (a .out .now) (sym (c .before .before .before .wrong-shape .ensures) ∙ c .before .before .if1 .left) (c .before .if2 .left) in omega arith
+sub-put-blocks c = let a = c .before .before .before .before .before .before .args in let l = front-in (a .n) (a .m) (a .s) (a .k) (a .store .now) (a .out .now) (sym (c .before .before .before .wrong-shape .ensures) ∙ c .before .before .if1 .left) (c .before .if2 .left) in omega arith
 
-part-recovery-of-parts-start : tie.Need-part-recovery-of-parts-start
+part-put-blocks-start : tie.Need-part-put-blocks-start
 unfolding wrongLent
-part-recovery-of-parts-start c = let a = c .before .before .before .before .before .before .args in let l = front-in (a .n) (a .m) (a .s) (a .k) (a .store .now) (a .out .now) (sym (c .before .before .before .wrong-shape .ensures) ∙ c .before .before .if1 .left) (c .before .if2 .left) in omega arith
+part-put-blocks-start c = let a = c .before .before .before .before .before .before .args in let l = front-in (a .n) (a .m) (a .s) (a .k) (a .store .now) (a .out .now) (sym (c .before .before .before .wrong-shape .ensures) ∙ c .before .before .if1 .left) (c .before .if2 .left) in omega arith
+
+array-borrow-prefix-sums : tie.Need-array-borrow-prefix-sums
+array-borrow-prefix-sums c = let a = c .before .before .before .before .before .before .before .args in let g = right (a .n) (a .m) (a .s) (sym (c .before .before .before .before .wrong-shape .ensures) ∙ c .before .before .before .if1 .left) in omega (arith, g)
+
+slice-aggregate-put-blocks-2 : tie.Need-slice-aggregate-put-blocks-2
+slice-aggregate-put-blocks-2 c = let a = c .before .before .before .before .before .before .before .before .args in let g = right (a .n) (a .m) (a .s) (sym (c .before .before .before .before .before .wrong-shape .ensures) ∙ c .before .before .before .before .if1 .left) in simp (length-take, length-replicate) (omega (arith, g))
+
+put-blocks-requires : tie.Need-put-blocks-requires
+unfolding wrongLent
+put-blocks-requires c κs =
+    let a = c .before .before .before .before .before .before .before .before .before .args in
+    let r = parted (a .n) (a .m) (a .s) (a .k) (a .store .now) (a .out .now) (sym (c .before .before .before .before .before .before .wrong-shape .ensures) ∙ c .before .before .before .before .before .if1 .left) (c .before .before .before .before .if2 .left) _ refl in
+    (r .0, simp (length-take, length-replicate) (omega (arith, r .0)), omega arith, r .1)
 
 returns-3 : tie.Need-returns-3
 unfolding wrongLent
 returns-3 c =
-    let a = c .before .before .before .before .before .before .before .before .before .before .before .args in
-    c .before .before .recovery-of-parts .ensures ∙ recovery-parted (a .n) (a .m) (a .s) (a .k) (a .store .now) (a .out .now) (sym (c .before .before .before .before .before .before .before .before .wrong-shape .ensures) ∙ c .before .before .before .before .before .before .before .if1 .left) (c .before .before .before .before .before .before .if2 .left)
+    let a = c .before .before .before .before .before .before .before .before .before .before .before .before .before .args in
+    recovery-done (a .n) (a .m) (a .s) (a .k) (a .store .now) (a .out .now) (sym (c .before .before .before .before .before .before .before .before .before .before .wrong-shape .ensures) ∙ c .before .before .before .before .before .before .before .before .before .if1 .left) (c .before .before .before .before .before .before .before .before .if2 .left) _ _ refl (c .before .before .before .put-blocks .ensures)
 
 pub recovery-spec : {M : Type 1} → statement M
 recovery-spec =
@@ -57,10 +68,12 @@ recovery-spec =
     returns-2
     sub-front
     mul-front
-    slice-aggregate-recovery-of-parts
-    sub-recovery-of-parts
-    part-recovery-of-parts-start
+    slice-aggregate-put-blocks
+    sub-put-blocks
+    part-put-blocks-start
     (λ c. search needs)
-    (λ c κs. search needs)
+    array-borrow-prefix-sums
+    slice-aggregate-put-blocks-2
+    put-blocks-requires
     (λ c. search needs)
     returns-3)

@@ -7,7 +7,7 @@ use native.Mathlib.Omega.{arith}
 use native.Mathlib.Decide.{decLt}
 use lib.ListN.{length, getD, take, drop, length-take, List·getD-eq-default}
 use lib.Seq.{getD-take, length-take-le}
-use lib.Bits.{bitXor}
+use lib.Bits.{bitXor, xor-lt}
 use Rattle.little.specs.Fields.{Bytes}
 use Rattle.little.proofs.Laws.{blockLaws, byteLaws, littleLaws}
 use Rattle.gf16.specs.Field.{mul}
@@ -18,24 +18,22 @@ use Rattle.cauchy.specs.Calls.{filled}
 use Rattle.cauchy.specs.inner.Promises.{Room, Rows}
 use Rattle.cauchy.proofs.blocks.BlockLaws.{length-wordBytes, wordBytes-ext, word-back-small}
 use Rattle.cauchy.proofs.blocks.Filled.{put-filled, filled-ext}
+use Rattle.cauchy.proofs.tables.SummedLaws.{summed-words}
 use Rattle.cauchy.proofs.ranges.RangeLaws.{none-filled, ltb-other, range-in}
 use Rattle.cauchy.proofs.decoding.Known.{length-sides, getD-sides}
-use Rattle.cauchy.specs.inner.Packed.{Sums, SumsFor, unitOf, rowBytes, heldRows, mixedWord}
+use Rattle.cauchy.specs.inner.Packed.{Sums, SumsFor, unitOf, rowBytes, heldRows, Summed}
 use Rattle.cauchy.specs.inner.Ranges.{Columns, sidesScratch}
 use Rattle.cauchy.proofs.encode.FourLaws.{word-out}
 use Rattle.cauchy.proofs.sides.HeldLaws.{held-below}
 
 -- a row of the sums, with a block added
-pub side-put : (r : ℕ) (acc block mid out : List ℕ) → Bytes block → mid ≡ rowBytes r acc → out ≡ wordBytes (mixedWord 1 1 mid block) 0 (length mid / 2)
+pub side-put : (r : ℕ) (acc block mid out : List ℕ) → Bytes mid → Bytes block → mid ≡ rowBytes r acc → Summed mid block out
     → out ≡ wordBytes (λ w. bitXor (getD acc w 0 / unitOf r % 65536) (wordAt block (2 * w))) 0 (length acc)
 unfolding rowBytes
-side-put r acc block mid out small em eo =
-    let l : length mid / 2 ≡ length acc = omega (arith, ap length em ∙ length-wordBytes f 0 (length acc)) in
-    eo ∙ ap (wordBytes (mixedWord 1 1 mid block) 0) l
-    ∙ wordBytes-ext (mixedWord 1 1 mid block) (λ w. bitXor (f w) (wordAt block (2 * w))) (length acc)
-    (λ w m. ap₂ bitXor
-    (ap (mul 1) (ap (λ (x : List ℕ). wordAt x (2 * w)) em ∙ word-back-small f (length acc) w m (omega arith)) ∙ laws .one-mul (f w) (omega arith))
-    (laws .one-mul (wordAt block (2 * w)) (littleLaws 2 .bound block small (2 * w))))
+side-put r acc block mid out bm bb em eo =
+    summed-words mid block out bm bb eo (length acc) (λ w. bitXor (f w) (wordAt block (2 * w))) (ap length em ∙ length-wordBytes f 0 (length acc))
+    (λ w m. xor-lt 16 (f w) (wordAt block (2 * w)) (omega arith) (littleLaws 2 .bound block bb (2 * w)))
+    (λ w m. ap (λ (x : ℕ). bitXor x (wordAt block (2 * w))) (ap (λ (x : List ℕ). wordAt x (2 * w)) em ∙ word-back-small f (length acc) w m (omega arith)))
   where
     f : ℕ → ℕ
     f w = getD acc w 0 / unitOf r % 65536

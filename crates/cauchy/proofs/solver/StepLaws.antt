@@ -8,13 +8,15 @@ use lib.Seq.{take-all}
 use lib.Bits.{bitXor, xor-comm, xor-zero-r}
 use Rattle.gf16.specs.Field.{Elem, mul, inv}
 use Rattle.gf16.proofs.Laws.{laws, Field·simp}
+use Rattle.little.specs.Fields.{Bytes}
 use Rattle.little.specs.Runs.{zeros}
+use Rattle.little.proofs.Laws.{littleLaws}
 use Rattle.cauchy.specs.Code.{wordAt, wordBytes}
 use Rattle.cauchy.specs.inner.System.{field}
 use Rattle.cauchy.specs.inner.Promises.{Room, RowTakenOff, UnknownFound, reduceOne, scaleOne, termOne}
 use Rattle.cauchy.proofs.blocks.BlockLaws.{length-wordBytes, wordBytes-ext, word-back-small, zero-words}
 use Rattle.cauchy.proofs.solver.Passes.{TakingOff, taking-start, taking-turn, taking-end, Finding, finding-start, finding-down, finding-last, set-below}
-use Rattle.cauchy.specs.inner.Packed.{mixedWord}
+use Rattle.cauchy.specs.inner.Packed.{mixedWord, timesWord, plusTimes}
 use Rattle.cauchy.specs.inner.Ranges.{Columns, columned, Became}
 use Rattle.cauchy.proofs.solver.ColumnLaws.{read-block, put-block}
 
@@ -45,6 +47,30 @@ scale-mixed c d a hc hd = ap₂ bitXor (laws .mul-comm c d hc hd) (laws .zero-mu
 
 term-mixed : (o v a : ℕ) → Elem o → Elem v → Elem a → bitXor (mul 1 a) (mul o v) ≡ bitXor (mul v o) a
 term-mixed o v a ho hv ha = ap₂ bitXor (laws .one-mul a ha) (laws .mul-comm o v ho hv) ∙ xor-comm a (mul v o)
+
+-- ---- what `scale` leaves, as two mixtures
+
+module _ (c i : ℕ) (dst one dst′ one′ : List ℕ) (hc : Elem c) (hi : Elem i) (bd : Bytes dst) (bo : Bytes one) (l : length dst ≡ length one)
+    (ed : dst′ ≡ wordBytes (timesWord c dst) 0 (length dst / 2)) (eo : one′ ≡ wordBytes (plusTimes (mul c i) one dst) 0 (length dst / 2)) where
+  pub scaled-dst : dst′ ≡ wordBytes (mixedWord c 0 dst one) 0 (length dst / 2)
+  scaled-dst =
+      ed ∙ wordBytes-ext (timesWord c dst) (mixedWord c 0 dst one) (length dst / 2)
+      (λ w m. sym (ap (bitXor (timesWord c dst w)) (laws .zero-mul (wordAt one (2 * w))) ∙ xor-zero-r (timesWord c dst w)))
+
+  pub scaled-one : one′ ≡ wordBytes (mixedWord 1 i one dst′) 0 (length one / 2)
+  scaled-one =
+      eo ∙ wordBytes-ext (plusTimes (mul c i) one dst) (mixedWord 1 i one dst′) (length dst / 2) each ∙ ap (λ (x : ℕ). wordBytes (mixedWord 1 i one dst′) 0 (x / 2)) l
+    where
+      -- i times c times a word, and c times i times it
+      turned : (x : ℕ) → Elem x → mul (mul c i) x ≡ mul i (mul c x)
+      turned x hx = simp Field·simp
+
+      each : (w : ℕ) → w < length dst / 2 → plusTimes (mul c i) one dst w ≡ mixedWord 1 i one dst′ w
+      each w m =
+          sym (ap₂ bitXor (laws .one-mul (wordAt one (2 * w)) (littleLaws 2 .bound one bo (2 * w)))
+          (ap (λ (x : List ℕ). mul i (wordAt x (2 * w))) ed
+          ∙ ap (mul i) (word-back-small (timesWord c dst) (length dst / 2) w m (laws .mul-below c (wordAt dst (2 * w)) hc))
+          ∙ sym (turned (wordAt dst (2 * w)) (littleLaws 2 .bound dst bd (2 * w)))))
 
 -- ---- what the loops of a step keep
 

@@ -10,8 +10,8 @@ use lib.Seq.{getD-set-same, getD-set-other}
 use lib.Bits.{bitXor, xor-shifted, xor-comm}
 use lib.Pow.{pow-mono}
 use Rattle.gf16.specs.Field.{Elem, mul}
-use Rattle.cauchy.specs.inner.Packed.{pack, products, Table, Spread}
-use Rattle.cauchy.proofs.tables.PackLaws.{pack-same, pack-xor}
+use Rattle.cauchy.specs.inner.Packed.{pack, products, Table, Spread, Doubled, FilledTo}
+use Rattle.cauchy.proofs.tables.PackLaws.{pack-same, pack-xor, packed-same}
 use Rattle.gf16.proofs.Laws.{laws}
 
 -- c (n + i) for i below the power n
@@ -110,12 +110,18 @@ table-one a b c d t h i hi =
     none : {x y z w : ℕ} → x ≡ 0 → y ≡ 0 → z ≡ 0 → w ≡ 0 → pack x y z w ≡ 0
     none p q r s = cc zero-pack
 
--- one turn of the filling, with what the calls promise
-pub table-turn : (a b c d n x p q r s : ℕ) (t t′ : List ℕ) → Elem a → Elem b → Elem c → Elem d → n < 256 → Power n
-    → p ≡ mul a n → q ≡ mul b n → r ≡ mul c n → s ≡ mul d n → x ≡ pack p q r s → Table a b c d n t → Spread n x t t′ → Table a b c d (2 * n) t′
-table-turn a b c d n x p q r s t t′ ha hb hc hd hn w ep eq er es ex old made =
-    let e : x ≡ pack (mul a n) (mul b n) (mul c n) (mul d n) = cc in
-    table-more a b c d n t t′ ha hb hc hd hn w old (rw e at made)
+-- ---- the filling, of a table and of the number that goes on with it
 
-pub power-turn : (a n p p′ : ℕ) → Elem a → n < 256 → p ≡ mul a n → p′ ≡ mul p 2 → p′ ≡ mul a (2 * n)
-power-turn a n p p′ ha hn e f = f ∙ ap (λ (y : ℕ). mul y 2) e ∙ mul-next a n ha (omega arith)
+pub filled-start : (x : ℕ) (t : List ℕ) → 0 < length t → FilledTo 1 x (set t 0 0) x
+filled-start x t h a b c d p =
+    (table-one a b c d t h, packed-same (sym (laws .mul-one a (p .first))) (sym (laws .mul-one b (p .second))) (sym (laws .mul-one c (p .third))) (sym (laws .mul-one d (p .fourth))) p)
+
+pub filled-turn : (n x y y′ : ℕ) (t t′ : List ℕ) → n < 256 → Power n → FilledTo n x t y → Spread n y t t′ → Doubled y y′ → FilledTo (2 * n) x t′ y′
+filled-turn n x y y′ t t′ hn w old made twice a b c d p =
+    let f = old a b c d p in (
+      table-more a b c d n t t′ (p .first) (p .second) (p .third) (p .fourth) hn w (f .0) (rw (f .1 .is) at made),
+      packed-same (next a (p .first)) (next b (p .second)) (next c (p .third)) (next d (p .fourth)) (twice (mul a n) (mul b n) (mul c n) (mul d n) (f .1)),
+    )
+  where
+    next : (z : ℕ) → Elem z → mul (mul z n) 2 ≡ mul z (2 * n)
+    next z h = mul-next z n h (omega arith)

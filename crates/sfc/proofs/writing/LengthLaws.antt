@@ -2,7 +2,7 @@
 use Prim.Native.Nat.{ℕ, zero, suc, _+_, _*_, _<_}
 use mathlib.Core.Path.{_≡_, refl, sym, ap, ap₂, _∙_}
 use mathlib.Core.Bool.{false}
-use mathlib.Core.List.{List, _++_, append-assoc, append-nil}
+use mathlib.Core.List.{List, _++_}
 use native.Mathlib.Nat.{suc-mul, zero-mul}
 use native.Mathlib.Omega.{arith}
 use lib.ListN.{length, length-append}
@@ -29,20 +29,6 @@ length-chunk uuid n m s i payload u =
     ∙ omega (arith, length-append (chunkHeader uuid n m s i) payload, length-header uuid n m s i u)
 
 -- ---- lists joined
-
-pub joined-append : (f : ℕ → List ℕ) (c a b : ℕ) → joined f c (a + b) ≡ joined f c a ++ joined f (c + a) b
-unfolding joined
-joined-append f c zero b = let e : 0 + b ≡ b = omega arith in let g : c ≡ c + 0 = omega arith in ap₂ (λ (i n : ℕ). joined f i n) g e
-joined-append f c (suc a) b =
-    let e : suc a + b ≡ suc (a + b) = omega arith in
-    let g : suc c + a ≡ c + suc a = omega arith in
-    ap (λ (n : ℕ). joined f c n) e
-    ∙ ap (λ (l : List ℕ). f c ++ l) (joined-append f (suc c) a b ∙ ap (λ (n : ℕ). joined f (suc c) a ++ joined f n b) g)
-    ∙ sym (append-assoc (f c) (joined f (suc c) a) (joined f (c + suc a) b))
-
-pub joined-one : (f : ℕ → List ℕ) (c : ℕ) → joined f c 1 ≡ f c
-unfolding joined
-joined-one f c = append-nil (f c)
 
 pub joined-same : (f g : ℕ → List ℕ) (c d n : ℕ) → ((k : ℕ) → k < n → f (c + k) ≡ g (d + k)) → joined f c n ≡ joined g d n
 unfolding joined

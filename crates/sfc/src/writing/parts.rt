@@ -4,11 +4,11 @@ use crate::format::layout::*;
 ghost use mathlib.Core.Path.{_≡_};
 ghost use mathlib.Core.Bool.{false};
 ghost use mathlib.Core.List.{_++_};
-ghost use Prim.Native.Nat.{_+_, _-_, _*_, _<_, _≤_};
+ghost use Prim.Native.Nat.{_+_, _-_, _*_, _^_, _<_, _≤_};
 ghost use lib.ListN.{length, take};
 ghost use Rattle.little.specs.Parts.{block};
 ghost use Rattle.cauchy.specs.Code.{joined, recoveryBlock, codeBlock};
-ghost use Rattle.cauchy.specs.Calls.{wrongShape};
+ghost use Rattle.cauchy.specs.Calls.{wrongShape, upToFour};
 ghost use Rattle.sfc.specs.format.Bytes.{padded};
 ghost use Rattle.sfc.specs.session.Lent.{shapeWrong};
 ghost use Rattle.sfc.specs.writing.Writer.{erasureFor, identityBytes, shapeBytes, indexBytes, preamble, trailerBytes, chunkHeader, sealed, chunkBytes};
@@ -153,51 +153,98 @@ pub(crate) fn put_trailer(digest: [u8; 32], time: u64, d: &mut [u8])
     little::clear8(&mut d[TRAILER_RESERVED_AT..TRAILER]);
 }
 
-// The data chunks before the last, whose payloads need no padding.
-fn put_data_chunks(uuid: [u8; 16], n: u32, m: u32, s: u32, front: &[u8], d: &mut [u8])
-    requires { ⌜ (1 ≤ n) × (length (now front) ≡ (n - 1) * s) × (length (now d) ≡ (n - 1) * (84 + s)) ⌝ }
-    ensures { λ _. ⌜ now (d .exit) ≡ joined (λ i. chunkBytes uuid n m s i (block s (now (front .entry)) i)) 0 (n - 1) ⌝ }
+// The chunks of `count` blocks that lie one after the other, with the indices from `first` on.
+fn put_run(
+    uuid: [u8; 16],
+    n: u32,
+    m: u32,
+    s: u32,
+    first: u32,
+    count: u32,
+    blocks: &[u8],
+    d: &mut [u8],
+)
+    requires { ⌜ (first + count < 2 ^ 32) × (length (now blocks) ≡ count * s) × (length (now d) ≡ count * (84 + s)) ⌝ }
+    ensures { λ _. ⌜ now (d .exit) ≡ joined (λ i. chunkBytes uuid n m s (first + i) (block s (now (blocks .entry)) i)) 0 count ⌝ }
 {
-    let most = n - 1;
     let mut i: u32 = 0;
     let mut from = 0;
     let mut at = 0;
-    while i < most {
+    while i < count {
         let to = from + s as usize;
         let end = at + CHUNK_OUTER + s as usize;
-        put_chunk(uuid, n, m, s, i, &front[from..to], &mut d[at..end]);
+        put_chunk(uuid, n, m, s, first + i, &blocks[from..to], &mut d[at..end]);
         i += 1;
         from = to;
         at = end;
     }
 }
 
-// The chunk of recovery block k, from the data blocks before the last and the last.
-fn put_recovery_chunk(
+// The chunks of the recovery blocks from k on, up to four. The blocks are made in `four`, where they lie one after the other:
+// their places in the chunks lie apart, and two parts of lent memory cannot be lent at once.
+fn put_four(
     uuid: [u8; 16],
     n: u32,
     m: u32,
     s: u32,
     k: u32,
+    count: u32,
     front: &[u8],
     last: &[u8],
-    c: &mut [u8],
+    four: &mut [u8],
+    d: &mut [u8],
 )
-    requires { ⌜ (wrongShape n m s ≡ false) × (k < m) × (length (now front) ≡ (n - 1) * s) × (length (now last) ≡ s) × (length (now c) ≡ 84 + s) ⌝ }
-    ensures { λ _. ⌜ now (c .exit) ≡ chunkBytes uuid n m s (n + k) (recoveryBlock n m s (now (front .entry) ++ now (last .entry)) k) ⌝ }
+    requires { ⌜ (wrongShape n m s ≡ false) × (k < m) × (count ≡ upToFour m k) × (length (now front) ≡ (n - 1) * s) × (length (now last) ≡ s) × (length (now four) ≡ count * s) × (length (now d) ≡ count * (84 + s)) ⌝ }
+    ensures { λ _. ⌜ now (d .exit) ≡ joined (λ i. chunkBytes uuid n m s (n + i) (recoveryBlock n m s (now (front .entry) ++ now (last .entry)) i)) k count ⌝ }
 {
-    put_chunk_header(uuid, n, m, s, n + k, &mut c[0..CHUNK_HEADER]);
-    let end = c.len() - CHUNK_TRAILER;
-    cauchy::recovery_of_parts(
+    cauchy::recovery_four(
         n as usize,
         m as usize,
         s as usize,
         k as usize,
         front,
         last,
-        &mut c[CHUNK_HEADER..end],
+        four,
     );
-    seal(c);
+    put_run(uuid, n, m, s, n + k, count, four, d);
+}
+
+// The recovery chunks, four at a time, with room for four blocks of any size in `four`.
+fn put_recovery_chunks_with(
+    uuid: [u8; 16],
+    n: u32,
+    m: u32,
+    s: u32,
+    front: &[u8],
+    last: &[u8],
+    four: &mut [u8],
+    d: &mut [u8],
+)
+    requires { ⌜ (wrongShape n m s ≡ false) × (length (now front) ≡ (n - 1) * s) × (length (now last) ≡ s) × (length (now four) ≡ 16384) × (length (now d) ≡ m * (84 + s)) ⌝ }
+    ensures { λ _. ⌜ now (d .exit) ≡ joined (λ k. chunkBytes uuid n m s (n + k) (recoveryBlock n m s (now (front .entry) ++ now (last .entry)) k)) 0 m ⌝ }
+{
+    let width = s as usize;
+    let mut k: u32 = 0;
+    let mut at = 0;
+    while k < m {
+        let count = little::least(4, (m - k) as usize);
+        let room = count * width;
+        let end = at + count * (CHUNK_OUTER + width);
+        put_four(
+            uuid,
+            n,
+            m,
+            s,
+            k,
+            count as u32,
+            front,
+            last,
+            &mut four[..room],
+            &mut d[at..end],
+        );
+        k += count as u32;
+        at = end;
+    }
 }
 
 fn put_recovery_chunks(
@@ -212,14 +259,8 @@ fn put_recovery_chunks(
     requires { ⌜ (wrongShape n m s ≡ false) × (length (now front) ≡ (n - 1) * s) × (length (now last) ≡ s) × (length (now d) ≡ m * (84 + s)) ⌝ }
     ensures { λ _. ⌜ now (d .exit) ≡ joined (λ k. chunkBytes uuid n m s (n + k) (recoveryBlock n m s (now (front .entry) ++ now (last .entry)) k)) 0 m ⌝ }
 {
-    let mut k: u32 = 0;
-    let mut at = 0;
-    while k < m {
-        let end = at + CHUNK_OUTER + s as usize;
-        put_recovery_chunk(uuid, n, m, s, k, front, last, &mut d[at..end]);
-        k += 1;
-        at = end;
-    }
+    let mut four = [0u8; 4 * LONGEST_BLOCK];
+    put_recovery_chunks_with(uuid, n, m, s, front, last, &mut four, d);
 }
 
 // All chunks, from data blocks of which the last lies apart from those before it.
@@ -230,7 +271,7 @@ fn put_all_chunks(uuid: [u8; 16], n: u32, m: u32, s: u32, front: &[u8], last: &[
     let width = CHUNK_OUTER + s as usize;
     let at = (n as usize - 1) * width;
     let end = at + width;
-    put_data_chunks(uuid, n, m, s, front, &mut d[..at]);
+    put_run(uuid, n, m, s, 0, n - 1, front, &mut d[..at]);
     put_chunk(uuid, n, m, s, n - 1, last, &mut d[at..end]);
     put_recovery_chunks(uuid, n, m, s, front, last, &mut d[end..]);
 }

@@ -4,21 +4,17 @@ use Rattle.cauchy.proofs.encode.add_share.Statement.{statement}
 use Rattle.cauchy.proofs.encode.add_share.Tie as tie
 
 returns : tie.Need-returns
-returns c =
-    rw (c .before .before .before .before .before .before .before .entry .ensures, c .before .before .before .before .before .before .entry2 .ensures, c .before .before .before .before .before .entry3 .ensures, c .before .before .before .before .entry4 .ensures) at (c .before .before .add-block .ensures)
+returns c = let e = c .before .before .add-block .ensures in (e .0 _ _ _ _ (c .before .before .before .before .before .before .weights .ensures), e .1)
 
 pub add-share-spec : {M : Type 1} → statement M
 add-share-spec =
     tie.close
     (tie.spec
     (λ c. search needs)
-    (λ c κs. search needs)
     (λ c. search needs)
     (λ c. search needs)
-    (λ c κs. search needs)
     (λ c. search needs)
     (λ c. search needs)
-    (λ c κs. search needs)
     (λ c. search needs)
     (λ c. search needs)
     (λ c κs. search needs)

@@ -11,13 +11,13 @@ use Rattle.cauchy.proofs.encode.put_rows.Statement.{statement}
 use Rattle.cauchy.proofs.encode.put_rows.Tie as tie
 
 abbrev Inv-loop : tie.InvT-loop
-Inv-loop s acc out₀ r₀ at₀ out r at = Run (λ i. rowBytes i acc) 4 s out₀ r at out
+Inv-loop s count acc out₀ r₀ at₀ out r at = Run (λ i. rowBytes i acc) count s out₀ r at out
 
 abbrev μ-loop : tie.MeasureT-loop
-μ-loop s acc out₀ r₀ at₀ out r at = 4 - r
+μ-loop s count acc out₀ r₀ at₀ out r at = count - r
 
 loop-holds : tie.Need-loop-holds Inv-loop μ-loop
-loop-holds c = let q = c .before .before in run-start (λ i. rowBytes i (q .args .acc .now)) 4 (q .args .s) (q .args .out .now) (q .pre .2)
+loop-holds c = let q = c .before .before in run-start (λ i. rowBytes i (q .args .acc .now)) (q .args .count) (q .args .s) (q .args .out .now) (q .pre .3)
 
 add-end : tie.Need-add-end Inv-loop μ-loop
 add-end c = let l = c .before .loop in let q = c .before .before .before .before in let r = run-room (l .inv) (c .loop-test .taken) in let e = run-length (l .inv) in omega (arith, q .pre)
@@ -30,13 +30,13 @@ put-one-requires c κs =
     let l = c .before .before .loop in
     let q = c .before .before .before .before .before in
     let r = run-room (l .inv) (c .before .loop-test .taken) in
-    (c .before .loop-test .taken, partLaws .length-part (l .out) (l .at) (l .at + q .args .s - l .at) (omega arith) ∙ omega (arith, q .pre .1))
+    (omega (arith, q .pre .1, c .before .loop-test .taken), partLaws .length-part (l .out) (l .at) (l .at + q .args .s - l .at) (omega arith) ∙ omega (arith, q .pre .2))
 
 loop-again : tie.Need-loop-again Inv-loop μ-loop
 loop-again c =
     let l = c .before .before .before .before .before .loop in
     let q = c .before .before .before .before .before .before .before .before in
-    run-turn (l .inv) (c .before .before .before .before .loop-test .taken) _ (l .at + q .args .s - l .at) (l .at + q .args .s) (omega arith) refl (c .before .before .put-one .ensures) (length-row (l .r) (q .args .acc .now) ∙ sym (q .pre .1))
+    run-turn (l .inv) (c .before .before .before .before .loop-test .taken) _ (l .at + q .args .s - l .at) (l .at + q .args .s) (omega arith) refl (c .before .before .put-one .ensures) (length-row (l .r) (q .args .acc .now) ∙ sym (q .pre .2))
 
 same-length : tie.Need-same-length Inv-loop μ-loop
 same-length c = run-length (c .before .loop .inv)

@@ -1,5 +1,5 @@
 -- `sum_four` meets its contract. Assumes nothing.
-use mathlib.Core.Path.{sym, _∙_}
+use mathlib.Core.Path.{refl, sym, _∙_}
 use Prim.Native.Nat.{_-_, _*_, _/_, _≤_}
 use native.Mathlib.Nat.{add-sub-cancel-left}
 use native.Mathlib.Omega.{arith}
@@ -7,22 +7,22 @@ use borrow.Author.Needs.{needs}
 use Rattle.little.proofs.Laws.{blockLaws}
 use Rattle.cauchy.proofs.shape.ShapeLaws.{few}
 use Rattle.cauchy.proofs.blocks.CodeLaws.{length-part, firstShares}
-use Rattle.cauchy.specs.inner.Packed.{Sums}
+use Rattle.cauchy.specs.inner.Packed.{Sized, Sums}
 use Rattle.cauchy.proofs.encode.SumLaws.{four-start, four-turn, four-end}
 use Rattle.cauchy.proofs.encode.sum_four.Statement.{statement}
 use Rattle.cauchy.proofs.encode.sum_four.Tie as tie
 
 abbrev Inv-loop : tie.InvT-loop
-Inv-loop count m s k store acc₀ j₀ acc j = (j ≤ count) × Sums (λ r w. firstShares m s r store j w) k (s / 2) acc
+Inv-loop count m s k store acc₀ low₀ high₀ j₀ acc low high j = (j ≤ count) × Sized low high × Sums (λ r w. firstShares m s r store j w) k (s / 2) acc
 
 abbrev μ-loop : tie.MeasureT-loop
-μ-loop count m s k store acc₀ j₀ acc j = count - j
+μ-loop count m s k store acc₀ low₀ high₀ j₀ acc low high j = count - j
 
 loop-holds : tie.Need-loop-holds Inv-loop μ-loop
 loop-holds c =
     let q = c .before .before .before .before .before .before in
     let a = q .args in
-    (omega arith, four-start (a .m) (a .s) (a .k) (a .s / 2) (a .store .now) _ _ (q .pre .6) (c .before .before .clear-words .ensures))
+    (omega arith, (refl, refl), four-start (a .m) (a .s) (a .k) (a .s / 2) (a .store .now) _ _ (q .pre .6) (c .before .before .clear-words .ensures))
 
 mul-at : tie.Need-mul-at Inv-loop μ-loop
 mul-at c =
@@ -41,27 +41,31 @@ part-add-share-end c =
 
 add-share-requires : tie.Need-add-share-requires Inv-loop μ-loop
 add-share-requires c κs =
-    let q = c .before .before .before .before .before .before .before .before .before .before in
+    let q = c .before .before .before .before .before .before .before .before .before .before .before .before in
     let a = q .args in
-    let l = c .before .before .before .loop in
+    let l = c .before .before .before .before .before .loop in
     let e = length-part (a .count) (a .s) (l .j) _ (a .store .now) (q .pre .5) (omega arith) (add-sub-cancel-left (l .j * a .s) (a .s)) in
-    (omega (arith, q .pre), omega (arith, q .pre), e ∙ omega (arith, l .inv .1 .size, q .pre .3))
+    (omega (arith, q .pre), omega (arith, q .pre), e ∙ omega (arith, l .inv .2 .size, q .pre .3), l .inv .1)
 
 loop-again : tie.Need-loop-again Inv-loop μ-loop
 loop-again c =
-    let q = c .before .before .before .before .before .before .before .before .before .before .before .before .before in
+    let q = c .before .before .before .before .before .before .before .before .before .before .before .before .before .before .before in
     let a = q .args in
-    let l = c .before .before .before .before .before .before .loop in
-    (omega arith, four-turn (a .m) (a .s) (a .k) (l .j) _ (a .store .now) (l .acc) _ (omega (arith, q .pre)) (omega (arith, q .pre)) (q .pre .3) (add-sub-cancel-left (l .j * a .s) (a .s)) (l .inv .1) (c .before .before .add-share .ensures))
+    let l = c .before .before .before .before .before .before .before .before .loop in
+    let e = c .before .before .add-share .ensures in (
+      omega arith,
+      e .1,
+      four-turn (a .m) (a .s) (a .k) (l .j) _ (a .store .now) (l .acc) _ (omega (arith, q .pre)) (omega (arith, q .pre)) (q .pre .3) (add-sub-cancel-left (l .j * a .s) (a .s)) (l .inv .2) (e .0),
+    )
 
 same-length : tie.Need-same-length Inv-loop μ-loop
-same-length c = c .before .loop .inv .1 .size ∙ sym (c .before .before .before .before .before .before .before .before .pre .6)
+same-length c = c .before .loop .inv .2 .size ∙ sym (c .before .before .before .before .before .before .before .before .pre .6)
 
 returns : tie.Need-returns Inv-loop μ-loop
 returns c =
     let a = c .before .before .before .before .before .before .before .before .args in
     let l = c .before .loop in
-    four-end (a .count) (a .m) (a .s) (a .k) (l .j) (a .store .now) (l .acc) (omega arith) (l .inv .1)
+    four-end (a .count) (a .m) (a .s) (a .k) (l .j) (a .store .now) (l .acc) (omega arith) (l .inv .2)
 
 pub sum-four-spec : {M : Type 1} → statement M
 sum-four-spec =

@@ -14,11 +14,11 @@ sum-four-requires c κs =
     let p = q .pre .0 in
     (omega (arith, p), p .m-most, p .s-most, p .even, p .row, p .front-long, q .pre .1)
 
-sub-add-share : tie.Need-sub-add-share
-sub-add-share c = let q = c .before .before .before .before .before .before .before in omega (arith, q .pre .0)
+sub-add-last : tie.Need-sub-add-last
+sub-add-last c = let q = c .before .before .before .before .before .before .before in omega (arith, q .pre .0)
 
-add-share-requires : tie.Need-add-share-requires
-add-share-requires c κs =
+add-last-requires : tie.Need-add-last-requires
+add-last-requires c κs =
     let q = c .before .before .before .before .before .before .before .before in
     let p = q .pre .0 in
     (omega (arith, p), omega (arith, p), omega (arith, p, c .before .before .before .sum-four .ensures .size))
@@ -27,7 +27,7 @@ returns : tie.Need-returns
 returns c =
     let q = c .before .before .before .before .before .before .before .before .before .before .before in
     let a = q .args in
-    parts-last (a .n) (a .m) (a .s) (a .k) (a .front .now) (a .last .now) _ _ (q .pre .0) (c .before .before .before .before .before .before .sum-four .ensures) (c .before .before .add-share .ensures)
+    parts-last (a .n) (a .m) (a .s) (a .k) (a .front .now) (a .last .now) _ _ (q .pre .0) (c .before .before .before .before .before .before .sum-four .ensures) (c .before .before .add-last .ensures)
 
 pub sum-parts-spec : {M : Type 1} → statement M
 sum-parts-spec =
@@ -35,7 +35,7 @@ sum-parts-spec =
     (tie.spec
     sub-sum-four
     sum-four-requires
-    sub-add-share
-    add-share-requires
+    sub-add-last
+    add-last-requires
     (λ c. search needs)
     returns)

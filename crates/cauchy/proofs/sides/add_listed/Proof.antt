@@ -4,8 +4,7 @@ use Rattle.cauchy.proofs.sides.add_listed.Statement.{statement}
 use Rattle.cauchy.proofs.sides.add_listed.Tie as tie
 
 returns : tie.Need-returns
-returns c =
-    rw (c .before .before .before .before .before .before .before .before .before .before .entry .ensures, c .before .before .before .before .before .before .before .before .entry2 .ensures, c .before .before .before .before .before .before .entry3 .ensures, c .before .before .before .before .entry4 .ensures) at (c .before .before .add-block .ensures)
+returns c = let e = c .before .before .add-block .ensures in (e .0 _ _ _ _ (c .before .before .before .before .before .before .weights .ensures), e .1)
 
 pub add-listed-spec : {M : Type 1} → statement M
 add-listed-spec =
@@ -13,15 +12,12 @@ add-listed-spec =
     (tie.spec
     (λ c. search needs)
     (λ c. search needs)
-    (λ c κs. search needs)
     (λ c. search needs)
     (λ c. search needs)
     (λ c. search needs)
-    (λ c κs. search needs)
     (λ c. search needs)
     (λ c. search needs)
     (λ c. search needs)
-    (λ c κs. search needs)
     (λ c. search needs)
     (λ c. search needs)
     (λ c. search needs)

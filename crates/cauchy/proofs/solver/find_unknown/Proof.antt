@@ -48,8 +48,8 @@ loop-again c =
           (l .inv .4 cs base whole here) (omega arith) (c .before .before .before .before .before .before .before .before .before .before .range-at .ensures .0) _ _ (c .before .before .before .before .put-back .ensures .0) (c .before .before .before .before .put-back .ensures .1),
     )
 
-part-mix-end : tie.Need-part-mix-end Inv-loop μ-loop
-part-mix-end c =
+part-sum-times-end : tie.Need-part-sum-times-end Inv-loop μ-loop
+part-sum-times-end c =
     let q = c .before .before .before .before .before .before .before .before .before .before .before .before .before in
     let a = q .args in
     let r = q .pre .0 in
@@ -64,7 +64,7 @@ returns c cs base whole here =
     let l = c .before .before .before .before .before .before .before .before .before .loop in
     let at = c .before .before .before .before .before .before .before .range-at2 .result in
     found-end (a .s) (a .first) (a .count) (length (a .one .now)) (length (a .b .now)) (a .xs .now) (a .ys .now) r (λ i. c .before .before .before .before .before .before .before .before .before .before .before .before .before .before .before .before .before .shared-slice-known .given i .fits) (λ i. c .before .before .before .before .before .before .before .before .before .before .before .before .before .before .before .before .shared-slice-known2 .given i .fits) (q .pre .1) (a .t) (q .pre .2) cs base whole (l .k) at (at + 2 * a .count - at) (l .one) (l .b) (l .inv .2) (add-sub-cancel-left at (2 * a .count))
-    (l .inv .4 cs base whole here) (omega arith) (c .before .before .before .before .before .before .before .range-at2 .ensures .0) _ (c .before .before .mix .ensures)
+    (l .inv .4 cs base whole here) (omega arith) (c .before .before .before .before .before .before .before .range-at2 .ensures .0) _ (c .before .before .sum-times .ensures)
 
 pub find-unknown-spec : {M : Type 1} → statement M
 find-unknown-spec =
@@ -100,7 +100,7 @@ find-unknown-spec =
     (λ c. search needs)
     (λ c. search needs)
     (λ c. search needs)
-    part-mix-end
+    part-sum-times-end
     (λ c κs. search needs)
     (λ c. search needs)
     (λ c. search needs)

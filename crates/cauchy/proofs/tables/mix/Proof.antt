@@ -5,18 +5,13 @@ use Rattle.cauchy.proofs.tables.mix.Tie as tie
 
 returns : tie.Need-returns
 returns c =
-    let g = c .before .before .before .before .before .before .before .before .before .before .before .before .before .before .before .before in
-    c .before .before .mix-words .ensures (g .args .c) (g .args .d) (g .fits .c .fits) (g .fits .d .fits) (c .before .before .before .before .before .before .before .before .before .before .before .before .fill .ensures)
-    (rw (c .before .before .before .before .before .before .before .before .before .before .mul .ensures, c .before .before .before .before .before .before .before .before .before .mul2 .ensures, c .before .before .before .before .before .before .before .before .mul3 .ensures, c .before .before .before .before .before .before .before .mul4 .ensures) at (c .before .before .before .before .before .before .fill2 .ensures))
+    let q = c .before .before .before .before .before .before .before .before .before .before .before .before in
+    c .before .before .mix-words .ensures (q .args .c) (q .args .d) (q .fits .c .fits) (q .fits .d .fits) (c .before .before .before .before .before .before .fill-both .ensures .0 (q .args .c) (q .args .d) 0 0 (c .before .before .before .before .before .before .before .pack-four .ensures))
 
 pub mix-spec : {M : Type 1} → statement M
 mix-spec =
     tie.close
     (tie.spec
-    (λ c κs. search needs)
-    (λ c κs. search needs)
-    (λ c κs. search needs)
-    (λ c κs. search needs)
     (λ c κs. search needs)
     (λ c κs. search needs)
     (λ c κs. search needs)

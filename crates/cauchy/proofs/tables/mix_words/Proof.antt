@@ -1,12 +1,12 @@
 -- `mix_words` meets its contract. Assumes nothing.
-use mathlib.Core.Path.{_≡_, refl}
-use Prim.Native.Nat.{_+_, _-_, _*_, _/_, _%_, _≤_, _<_}
+use mathlib.Core.Path.{_≡_, refl, ap₂}
+use Prim.Native.Nat.{ℕ, _+_, _-_, _*_, _/_, _%_, _≤_, _<_}
 use native.Mathlib.Omega.{arith}
 use lib.Bits.{bitXor}
 use lib.ListN.{length, length-set}
 use borrow.Author.Needs.{needs}
 use Rattle.cauchy.proofs.blocks.MixLaws.{mixed, mixed-start, mixed-turn, mixed-end}
-use Rattle.cauchy.proofs.tables.MixtureLaws.{picked, picked-lt, picked-made, mixed-all}
+use Rattle.cauchy.proofs.tables.MixtureLaws.{picked, picked-lt, looked-kept, mixed-all}
 use Rattle.cauchy.proofs.tables.mix_words.Statement.{statement}
 use Rattle.cauchy.proofs.tables.mix_words.Tie as tie
 
@@ -31,23 +31,24 @@ loop-again c =
     let l = c .before .before .before .before .before .before .before .loop in
     let a = c .before .before .before .before .before .before .before .before .before .before .args in
     let f = picked (a .low .now) (a .high .now) (a .dst .now) (a .src .now) in
+    let p = c .before .before .before .look in
+    let q = c .look2 in
     let m : 2 * l .w + 1 < length (a .dst .now) = omega arith in
-    let h : (bitXor (c .before .before .before .look .result % 65536) (c .look2 .result / 65536 % 65536)) < 65536 = picked-lt (c .before .before .before .look .result) (c .look2 .result) in
-    let e : (bitXor (c .before .before .before .look .result % 65536) (c .look2 .result / 65536 % 65536)) / 256 % 256 ≡ (bitXor (c .before .before .before .look .result % 65536) (c .look2 .result / 65536 % 65536)) / 256 = omega arith in (
+    let v : ℕ = bitXor (p .result % 65536) (q .result / 65536 % 65536) in
+    let h : v < 65536 = picked-lt (p .result) (q .result) in
+    let e : v / 256 % 256 ≡ v / 256 = omega arith in
+    let k = looked-kept f (a .dst .now) (l .dst) (l .w) (l .inv .2) m (a .low .now) (a .high .now) (p .result) (p .ensures) in (
       omega arith,
       simp length-set (l .inv .1),
-      rw e
-          (mixed-turn f (l .w) (a .dst .now) (l .dst) (bitXor (c .before .before .before .look .result % 65536) (c .look2 .result / 65536 % 65536)) (l .inv .2) m h
-          (picked-made (a .low .now) (a .high .now) (a .dst .now) (a .src .now) (l .dst) (l .w) (c .before .before .before .look .result) (c .look2 .result) _ (l .inv .2) m (c .before .before .before .look .ensures) (c .look2 .ensures) refl)),
+      rw e (mixed-turn f (l .w) (a .dst .now) (l .dst) v (l .inv .2) m h (ap₂ (λ (x y : ℕ). bitXor (x % 65536) (y / 65536 % 65536)) k (q .ensures))),
     )
 
 returns : tie.Need-returns Inv-loop μ-loop
-returns c x y hx hy low high =
+returns c x y hx hy t =
     let l = c .before .loop in
-    let q = c .before .before .before .before in
-    let a = q .args in
+    let a = c .before .before .before .before .args in
     let e : l .w ≡ length (a .dst .now) / 2 = omega arith in
-    mixed-all (a .low .now) (a .high .now) (a .dst .now) (a .src .now) (l .dst) x y (length (a .dst .now) / 2) hx hy low high
+    mixed-all (a .low .now) (a .high .now) x y hx hy t (a .dst .now) (a .src .now) (l .dst) (length (a .dst .now) / 2)
     (λ p. omega (arith, c .before .before .before .slice-known .given p)) (λ p. omega (arith, c .before .before .shared-slice-known .given p))
     (rw e at (mixed-end (picked (a .low .now) (a .high .now) (a .dst .now) (a .src .now)) (l .w) (a .dst .now) (l .dst) (l .inv .2) (omega arith)))
 
