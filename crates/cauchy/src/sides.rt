@@ -13,9 +13,10 @@ ghost use Prim.Native.Nat.{_+_, _*_, _/_, _%_, _≤_, _<_};
 ghost use lib.ListN.{length, getD, take};
 ghost use lib.Bits.{bitXor};
 ghost use Rattle.cauchy.specs.Code.{mostData, mostRecovery, mostBlock, fieldSize, wordAt, wordBytes};
+ghost use Rattle.cauchy.specs.Decode.{missingNodes};
 ghost use Rattle.cauchy.specs.inner.Promises.{Room, Rows};
 ghost use Rattle.cauchy.specs.inner.Packed.{Sized, Added, Sums, weightOf, unitOf, heldRows, SumsFor};
-ghost use Rattle.cauchy.specs.inner.Ranges.{sidesScratch};
+ghost use Rattle.cauchy.specs.inner.Ranges.{sidesScratch, SidesCopied};
 
 // Adds what data block j brings to the rows listed at i to i + 3.
 pub fn add_listed(
@@ -152,4 +153,54 @@ pub fn put_sides(
         &mut sums[..count],
         scratch,
     );
+}
+
+// The right sides where no data block is held: the recovery blocks' own words, with nothing to take off them.
+pub fn copy_sides(
+    n: usize,
+    m: usize,
+    s: usize,
+    first: usize,
+    count: usize,
+    e: usize,
+    rows: &[u16],
+    store: &[u8],
+    scratch: &mut [u8],
+)
+    requires { ⌜ Room s first count e (2 * count) (length (now scratch)) × Rows n m s (take e (now rows)) (now store) × (length (now rows) ≡ mostRecovery) ⌝ }
+    ensures { λ _. ⌜ SidesCopied n m s first count e (now (rows .entry)) (now (store .entry)) (now (scratch .entry)) (now (scratch .exit)) ⌝ }
+{
+    let mut i: usize = 0;
+    while i < e {
+        let k = rows[i] as usize;
+        let from = range_at(s, first, n + k);
+        let to = from + 2 * count;
+        let at = range_at(s, first, i);
+        let end = at + 2 * count;
+        bytes::copy(&store[from..to], &mut scratch[at..end]);
+        i += 1;
+    }
+}
+
+// The right sides, with room for sums only where there is something to add up.
+pub fn lay_sides(
+    n: usize,
+    m: usize,
+    s: usize,
+    first: usize,
+    count: usize,
+    e: usize,
+    marks: &[u8],
+    rows: &[u16],
+    store: &[u8],
+    scratch: &mut [u8],
+)
+    requires { ⌜ Room s first count e (2 * count) (length (now scratch)) × Rows n m s (take e (now rows)) (now store) × (length (now marks) ≡ n + m) × (length (now rows) ≡ mostRecovery) × (e ≡ length (missingNodes n m (now marks))) ⌝ }
+    ensures { λ _. ⌜ now (scratch .exit) ≡ sidesScratch n m s first count e (now (marks .entry)) (now (rows .entry)) (now (store .entry)) (now (scratch .entry)) ⌝ }
+{
+    if e == n {
+        copy_sides(n, m, s, first, count, e, rows, store, scratch);
+        return;
+    }
+    put_sides(n, m, s, first, count, e, marks, rows, store, scratch);
 }

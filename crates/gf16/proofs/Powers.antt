@@ -1,5 +1,5 @@
 -- A product by two in its bits; and by a power of two it is the product of numbers, as long as that is an element. Assumes nothing.
-use mathlib.Core.Path.{_≡_, refl, sym, ap, _∙_}
+use mathlib.Core.Path.{_≡_, sym, ap, _∙_}
 use Prim.Native.Nat.{ℕ, zero, suc, _+_, _-_, _*_, _/_, _%_, _^_, _≤_, _<_}
 use native.Mathlib.Nat.{zero-add, pow-suc, mul-assoc, mul-comm}
 use native.Mathlib.Omega.{arith}

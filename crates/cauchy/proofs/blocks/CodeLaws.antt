@@ -27,6 +27,14 @@ sum-ext f g c (suc n) h =
     let e₀ : c + 0 ≡ c = omega arith in
     ap₂ bitXor (rw e₀ at (h 0 (omega arith))) (sum-ext f g (suc c) n (λ i m. let e₁ : suc c + i ≡ c + suc i = omega arith in rw e₁ (h (suc i) (suc-le-suc m))))
 
+-- a sum of nothing
+pub sum-none : (f : ℕ → ℕ) (c n : ℕ) → ((i : ℕ) → i < n → f (c + i) ≡ 0) → fieldSum f c n ≡ 0
+unfolding fieldSum
+sum-none f c zero h = refl
+sum-none f c (suc n) h =
+    let e : c + 0 ≡ c = omega arith in
+    ap₂ bitXor (rw e at (h 0 (omega arith))) (sum-none f (suc c) n (λ i m. let e₁ : suc c + i ≡ c + suc i = omega arith in rw e₁ (h (suc i) (suc-le-suc m))))
+
 -- one share more, at the end
 pub sum-more : (f : ℕ → ℕ) (c j : ℕ) → fieldSum f c (suc j) ≡ bitXor (fieldSum f c j) (f (c + j))
 unfolding fieldSum

@@ -10,7 +10,7 @@ use mathlib.Core.Bool.{Bool, cond}
 use lib.Dec.{eqb}
 use borrow.Author.Tests.{eq-eqb, ne-eqb}
 use lib.Seq.{drop-cons, drop-length, take-suc, take-suc-set, take-all, getD-take, getD-drop, length-take-le}
-use Rattle.cauchy.proofs.decoding.Known.{length-held, held-none, held-one, missing-at}
+use Rattle.cauchy.proofs.decoding.Known.{length-held, length-missing, held-none, held-one, missing-at}
 use Rattle.cauchy.specs.Decode.{missing, count, held, present}
 
 -- one more of the list L is written
@@ -174,3 +174,18 @@ holding-end ms I c z e = rw z at e
 pub holding-start : (ms : List ℕ) → 0 ≡ count (held (drop (length ms) ms))
 unfolding count held
 holding-start ms = sym (ap (λ (x : List ℕ). count (held x)) (drop-length ms))
+
+-- ---- where as many data blocks are missing as there are, none is held
+
+count-some : (hs : List ℕ) (j : ℕ) → getD hs j 0 ≡ 1 → 0 < count hs
+unfolding count
+count-some [] j e = absurd (omega arith)
+count-some (zero ∷ hs) zero e = absurd (omega arith)
+count-some (zero ∷ hs) (suc j) e = count-some hs j e
+count-some (suc h ∷ hs) j e = omega arith
+
+pub all-missing : (n m e : ℕ) (marks : List ℕ) → length marks ≡ n + m → e ≡ length (missing m (held (take n marks))) → e ≡ n → (j : ℕ) → j < n → getD marks j 0 ≡ 1 → ⊥
+all-missing n m e marks l ee en j h one =
+    let t : length (take n marks) ≡ n = length-take-le n marks (omega arith) in
+    let o = count-some (held (take n marks)) j (held-one (take n marks) j (getD-take n marks j 0 h ∙ one)) in
+    omega (arith, length-missing m (held (take n marks)), length-held (take n marks))

@@ -1,5 +1,6 @@
 -- The right sides, row by row: a word of the sums and the recovery block's own word. Assumes nothing.
 use mathlib.Core.Path.{_≡_, refl, sym, subst, ap, ap₂, _∙_}
+use mathlib.Core.Bool.{Bool, cond}
 use mathlib.Core.List.{List, _++_}
 use Prim.Native.Nat.{ℕ, _+_, _-_, _*_, _/_, _%_, _≤_, _<_}
 use native.Mathlib.Nat.{mul-le-mul-right}
@@ -7,16 +8,18 @@ use native.Mathlib.Omega.{arith}
 use native.Mathlib.Decide.{decLt}
 use lib.ListN.{length, getD, take, drop, length-take, List·getD-eq-default}
 use lib.Seq.{getD-take, length-take-le}
-use lib.Bits.{bitXor, xor-lt}
+use lib.Bits.{bitXor, xor-lt, xor-zero-l}
+use borrow.Author.Tests.{ne-eqb}
 use Rattle.little.specs.Fields.{Bytes}
-use Rattle.little.proofs.Laws.{blockLaws, byteLaws, littleLaws}
-use Rattle.gf16.specs.Field.{mul}
+use Rattle.little.proofs.Laws.{blockLaws, partLaws, byteLaws, littleLaws}
 use Rattle.gf16.proofs.Laws.{laws}
-use Rattle.cauchy.specs.Code.{wordAt, wordOf, wordBytes}
+use Rattle.cauchy.specs.Code.{wordAt, wordOf, wordBytes, share}
 use Rattle.cauchy.specs.Decode.{heldSum, side, sides}
 use Rattle.cauchy.specs.Calls.{filled}
-use Rattle.cauchy.specs.inner.Promises.{Room, Rows}
-use Rattle.cauchy.proofs.blocks.BlockLaws.{length-wordBytes, wordBytes-ext, word-back-small}
+use Rattle.cauchy.specs.inner.Promises.{Below, Room, Rows}
+use Rattle.cauchy.proofs.blocks.BlockLaws.{length-wordBytes, wordBytes-ext, word-back-small, below-wordBytes, words-same}
+use Rattle.cauchy.proofs.blocks.CodeLaws.{sum-none}
+use Rattle.cauchy.proofs.blocks.WordBytes.{word-lt}
 use Rattle.cauchy.proofs.blocks.Filled.{put-filled, filled-ext}
 use Rattle.cauchy.proofs.tables.SummedLaws.{summed-words}
 use Rattle.cauchy.proofs.ranges.RangeLaws.{none-filled, ltb-other, range-in}
@@ -24,7 +27,7 @@ use Rattle.cauchy.proofs.decoding.Known.{length-sides, getD-sides}
 use Rattle.cauchy.specs.inner.Packed.{Sums, SumsFor, unitOf, rowBytes, heldRows, Summed}
 use Rattle.cauchy.specs.inner.Ranges.{Columns, sidesScratch}
 use Rattle.cauchy.proofs.encode.FourLaws.{word-out}
-use Rattle.cauchy.proofs.sides.HeldLaws.{held-below}
+use Rattle.cauchy.proofs.sides.HeldLaws.{heldShare, held-below}
 
 -- a row of the sums, with a block added
 pub side-put : (r : ℕ) (acc block mid out : List ℕ) → Bytes mid → Bytes block → mid ≡ rowBytes r acc → Summed mid block out
@@ -46,9 +49,36 @@ sideAt n m s marks rows store l w = side n m s marks store w (getD rows l 0)
 abbrev pub Sided : ℕ → ℕ → ℕ → ℕ → ℕ → List ℕ → List ℕ → List ℕ → List ℕ → ℕ → List ℕ → Type 0
 Sided n m s first count marks rows store base i F = F ≡ filled s first count i (sideAt n m s marks rows store) base
 
+-- where none is held, nothing is taken off
+none-held : (n m s : ℕ) (marks store : List ℕ) (k w : ℕ) → ((j : ℕ) → j < n → getD marks j 0 ≡ 1 → ⊥) → heldSum n m s marks store k w ≡ 0
+unfolding heldSum
+none-held n m s marks store k w none =
+    sum-none (heldShare m s marks store k w) 0 n
+    (λ j h. let e : 0 + j ≡ j = omega arith in rw e (ap (λ (t : Bool). cond t (share m s store k w j) 0) (ne-eqb (getD marks j 0) 1 (none j h))))
+
+-- bytes are the bytes of their own words
+own-words : (l : List ℕ) (n : ℕ) → length l ≡ 2 * n → Below 256 l → l ≡ wordBytes (λ w. wordAt l (2 * w)) 0 n
+own-words l n e b =
+    words-same n l (wordBytes (λ w. wordAt l (2 * w)) 0 n) e (length-wordBytes (λ w. wordAt l (2 * w)) 0 n) b (below-wordBytes (λ w. wordAt l (2 * w)) n)
+    (λ w h. sym (word-back-small (λ w. wordAt l (2 * w)) n w h (word-lt l (2 * w) b)))
+
 module _ (n m s first count e part size : ℕ) (marks rows store base : List ℕ) (room : Room s first count e part size) where
   pub sided-start : Sided n m s first count marks rows store base 0 base
   sided-start = none-filled s first count (sideAt n m s marks rows store) base (room .words)
+
+  row-put : (i at width : ℕ) (F out : List ℕ) → i < e → length base ≡ size → at ≡ i * s + 2 * first → width ≡ 2 * count
+      → Sided n m s first count marks rows store base i F → out ≡ wordBytes (λ v. sideAt n m s marks rows store i (first + v)) 0 count
+      → Sided n m s first count marks rows store base (i + 1) (take at F ++ (out ++ drop width (drop at F)))
+  row-put i at width F out hi lb ea ew here eo =
+      ap (λ (x : ℕ). take x F ++ (out ++ drop width (drop x F))) ea
+      ∙ put-filled s first count (room .words) i (i + 1) (sideAt n m s marks rows store) (sideAt n m s marks rows store) base F out i width
+      (omega (arith, room .least)) (omega arith) (omega (arith, room .inside, mul-le-mul-right {m = i + 1} {n = e} s (omega arith))) ew (λ l q. ltb-other l i q) (λ l w q h. refl) here eo
+
+  own-word : (i from wide w : ℕ) → w < count → from ≡ (n + getD rows i 0) * s + 2 * first → wide ≡ 2 * count
+      → wordAt (take wide (drop from store)) (2 * w) ≡ wordOf s store (n + getD rows i 0) (first + w)
+  own-word i from wide w h ef ev =
+      let q : from + 2 * w ≡ (n + getD rows i 0) * s + 2 * (first + w) = omega arith in
+      byteLaws .le-part 2 store from wide (2 * w) (omega arith) ∙ ap (wordAt store) q
 
   -- row i, from the sums of the four rows among which it is
   pub sided-turn : (i from at wide width : ℕ) (acc F out : List ℕ) → m + n ≤ 65536 → ((j : ℕ) → getD rows j 0 < 65536) → i < e → length base ≡ size
@@ -58,11 +88,9 @@ module _ (n m s first count e part size : ℕ) (marks rows store base : List ℕ
       → Sided n m s first count marks rows store base (i + 1) (take at F ++ (out ++ drop width (drop at F)))
   unfolding side
   sided-turn i from at wide width acc F out hm small hi lb ef ea ev ew sums here eo =
-      ap (λ (x : ℕ). take x F ++ (out ++ drop width (drop x F))) ea
-      ∙ put-filled s first count (room .words) i (i + 1) (sideAt n m s marks rows store) (sideAt n m s marks rows store) base F out i width
-      (omega (arith, room .least)) (omega arith) (omega (arith, room .inside, mul-le-mul-right {m = i + 1} {n = e} s (omega arith))) ew (λ l q. ltb-other l i q) (λ l w q h. refl) here
+      row-put i at width F out hi lb ea ew here
       (eo ∙ ap (wordBytes (λ w. bitXor (getD acc w 0 / unitOf (i % 4) % 65536) (wordAt (take wide (drop from store)) (2 * w))) 0) (sums .size)
-      ∙ wordBytes-ext _ (λ v. sideAt n m s marks rows store i (first + v)) count (λ w h. ap₂ bitXor (held w h) (own w h)))
+      ∙ wordBytes-ext _ (λ v. sideAt n m s marks rows store i (first + v)) count (λ w h. ap₂ bitXor (held w h) (own-word i from wide w h ef ev)))
     where
       held : (w : ℕ) → w < count → getD acc w 0 / unitOf (i % 4) % 65536 ≡ heldSum n m s marks store (getD rows i 0) (first + w)
       held w h =
@@ -71,10 +99,18 @@ module _ (n m s first count e part size : ℕ) (marks rows store base : List ℕ
           ∙ word-out (λ j. heldRows n m s first marks rows store j w) (i - i % 4) (i % 4) (omega arith) (λ j _. held-below n m s marks store (getD rows j 0) (first + w) (small j) hm)
           ∙ ap (λ (j : ℕ). heldRows n m s first marks rows store j w) q
 
-      own : (w : ℕ) → w < count → wordAt (take wide (drop from store)) (2 * w) ≡ wordOf s store (n + getD rows i 0) (first + w)
-      own w h =
-          let q : from + 2 * w ≡ (n + getD rows i 0) * s + 2 * (first + w) = omega arith in
-          byteLaws .le-part 2 store from wide (2 * w) (omega arith) ∙ ap (wordAt store) q
+  -- row i, where no data block is held: the words of its recovery block as they are
+  pub sided-copied : (i from at wide width : ℕ) (F out : List ℕ) → ((j : ℕ) → j < n → getD marks j 0 ≡ 1 → ⊥) → Bytes store → i < e → length base ≡ size
+      → from ≡ (n + getD rows i 0) * s + 2 * first → at ≡ i * s + 2 * first → wide ≡ 2 * count → width ≡ 2 * count → from + wide ≤ length store
+      → Sided n m s first count marks rows store base i F → out ≡ take wide (drop from store)
+      → Sided n m s first count marks rows store base (i + 1) (take at F ++ (out ++ drop width (drop at F)))
+  unfolding side
+  sided-copied i from at wide width F out none bytes hi lb ef ea ev ew hs here eo =
+      row-put i at width F out hi lb ea ew here
+      (eo ∙ own-words (take wide (drop from store)) count (partLaws .length-part store from wide hs ∙ ev) (λ k h. byteLaws .bytes-part store from wide bytes k)
+      ∙ wordBytes-ext (λ v. wordAt (take wide (drop from store)) (2 * v)) (λ v. sideAt n m s marks rows store i (first + v)) count
+      (λ w h. own-word i from wide w h ef ev
+      ∙ sym (ap (λ (x : ℕ). bitXor x (wordOf s store (n + getD rows i 0) (first + w))) (none-held n m s marks store (getD rows i 0) (first + w) none) ∙ xor-zero-l (wordOf s store (n + getD rows i 0) (first + w)))))
 
   pub sided-end : (i : ℕ) (F : List ℕ) → i ≡ e → e ≤ length rows → Sided n m s first count marks rows store base i F → F ≡ sidesScratch n m s first count e marks rows store base
   sided-end i F ei he here =

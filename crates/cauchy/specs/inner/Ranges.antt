@@ -2,9 +2,9 @@
 -- the solver makes of each. Assumes nothing: these are definitions.
 use mathlib.Core.Path.{_≡_}
 use mathlib.Core.List.{List}
-use Prim.Native.Nat.{ℕ}
+use Prim.Native.Nat.{ℕ, _<_}
 use lib.ListN.{length, getD, take}
-use Rattle.cauchy.specs.Code.{fieldSize}
+use Rattle.cauchy.specs.Code.{fieldSize, Held}
 use Rattle.cauchy.specs.Decode.{sides}
 use Rattle.cauchy.specs.Calls.{filled}
 use Rattle.cauchy.specs.inner.System.{field, solve}
@@ -39,3 +39,8 @@ Solves s first count xs ys old new =
 -- scratch with the right sides for the first e rows in the words that are asked for
 abbrev pub sidesScratch : ℕ → ℕ → ℕ → ℕ → ℕ → ℕ → List ℕ → List ℕ → List ℕ → List ℕ → List ℕ
 sidesScratch n m s first count e marks rows store scratch = columned s first count e (λ w. sides n m s marks store w (take e rows)) scratch
+
+-- the same from the recovery blocks alone, where none of the n data blocks is held
+abbrev pub SidesCopied : ℕ → ℕ → ℕ → ℕ → ℕ → ℕ → List ℕ → List ℕ → List ℕ → List ℕ → Type 0
+SidesCopied n m s first count e rows store old new =
+    (marks : List ℕ) → ((j : ℕ) → j < n → Held marks j → ⊥) → new ≡ sidesScratch n m s first count e marks rows store old

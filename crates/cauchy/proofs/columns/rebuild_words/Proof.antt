@@ -25,7 +25,7 @@ solve-words-requires c κs =
     let a = c .before .before .before .before .before .before .before .before .before .before .before .before .before .args in let g = c .before .before .before .before .before .before .before .before .before .before .before .before .before .pre in let f = fine (a .n) (a .m) (a .s) _ _ _ _ (a .first) (a .count) (g .0) (g .1) in let h = enough (a .n) (a .m) (a .marks .now) (f .marks-long) (g .2) in
     let ex = rows-are (a .n) (a .m) (c .before .before .before .before .before .before .before .list-missing .result) (a .marks .now) _ (f .marks-long) (g .2) (c .before .before .before .before .before .before .before .list-missing .ensures .0) (c .before .before .before .before .list-rows .ensures) in
     let q = solvable (a .n) (a .m) (a .s) (a .first) (a .count) (c .before .before .before .before .before .before .before .list-missing .result) (a .marks .now) (a .store .now) (a .scratch .now) (a .numbers .now) _ f (g .2) (c .before .before .before .before .before .before .before .list-missing .ensures .0) ex in
-    (q .room, q .rows, f .marks-long, c .before .before .before .before .list-rows .kept .1 .1 .1 .1 .0, ap length (c .before .before .before .before .before .before .before .list-missing .ensures .1) ∙ sym (c .before .before .before .before .before .before .before .list-missing .ensures .0))
+    (q .room, q .rows, f .marks-long, c .before .before .before .before .list-rows .kept .1 .1 .1 .1 .0, ap length (c .before .before .before .before .before .before .before .list-missing .ensures .1) ∙ sym (c .before .before .before .before .before .before .before .list-missing .ensures .0), c .before .before .before .before .before .before .before .list-missing .ensures .0)
 
 returns : tie.Need-returns
 returns c =

@@ -1,6 +1,6 @@
 -- `put_row` meets its contract. Assumes nothing.
 use mathlib.Core.Path.{_≡_, refl}
-use Prim.Native.Nat.{_-_, _*_, _/_, _%_, _≤_, _<_}
+use Prim.Native.Nat.{_-_, _/_, _%_, _≤_, _<_}
 use native.Mathlib.Omega.{arith}
 use lib.ListN.{length, getD, length-set}
 use borrow.Author.Needs.{needs}

@@ -1,5 +1,4 @@
 -- `put_back` meets its contract. Assumes nothing.
-use native.Mathlib.Omega.{arith}
 use lib.Bits.{bitXor, xor-lt}
 use Rattle.gf16.specs.Field.{Elem, mul, inv}
 use Rattle.gf16.proofs.Laws.{laws}
