@@ -54,9 +54,17 @@ impl Code {
         [data, more].concat()
     }
 
+    /// Lent memory as it was, dirty.
+    fn refused(&self, answer: u64) -> Left {
+        Left { answer, scratch: vec![0xEE; self.m * self.s], numbers: vec![7; 1024] }
+    }
+
     /// Rebuilding from the blocks that are not gone: the words from `first` on, `count` of them, of each missing data block.
     fn rebuilt(&self, blocks: &[Vec<u8>], gone: impl Fn(usize) -> bool, first: usize, count: usize) -> Left {
-        let mut left = Left { answer: TOO_FEW, scratch: vec![0xEE; self.m * self.s], numbers: vec![7; 1024] };
+        if first + count > self.s / 2 {
+            return self.refused(BAD_SHAPE);
+        }
+        let mut left = self.refused(TOO_FEW);
         let held: Vec<Option<Vec<u8>>> =
             blocks.iter().enumerate().map(|(i, b)| (!gone(i)).then(|| b.clone())).collect();
         if let Some(data) = decode(self.n, self.m, &held) {
@@ -114,17 +122,34 @@ fn wide_code() {
     println!("3+2 of 64 bytes without 1 and 2: {:08x}", left.digest(1));
 }
 
+/// Blocks of 1, 3, 5, 31 and 33 words. There is one way to encode here, so its digest stands for both of the calls.
+fn odd_blocks() {
+    for (s, m) in [2, 6, 10, 62, 66].into_iter().flat_map(|s| (1..=7).map(move |m| (s, m))) {
+        let code = Code { n: 8, m, s };
+        let blocks = code.blocks();
+        let whole = digest(1, numbers_of(&blocks.concat()));
+        let left = code.rebuilt_all(&blocks, |i| (1..=m).contains(&i));
+        println!("8+{m} of {s} bytes: {whole:08x} {whole:08x} {:08x}", left.digest(1));
+    }
+}
+
 fn column_ranges() {
     let code = Code { n: 5, m: 3, s: 8 };
     let blocks = code.blocks();
     for (first, count) in (0..6).flat_map(|first| (0..6).map(move |count| (first, count))) {
-        let left = if first + count <= 4 {
-            code.rebuilt(&blocks, |i| 0b00101001 >> i & 1 == 1, first, count)
-        } else {
-            Left { answer: BAD_SHAPE, scratch: vec![0xEE; 24], numbers: vec![7; 1024] }
-        };
+        let left = code.rebuilt(&blocks, |i| 0b00101001 >> i & 1 == 1, first, count);
         let numbers = digest(1, std::iter::once(left.answer).chain(left.numbers.iter().copied()));
         println!("5+3 of 8 bytes, columns {first} and {count}: {numbers:08x} {}", hex(&left.scratch));
+    }
+}
+
+/// All but one of the data blocks are gone, and just enough blocks are held.
+fn odd_ranges() {
+    let code = Code { n: 6, m: 5, s: 20 };
+    let blocks = code.blocks();
+    for (first, count) in (0..=10).flat_map(|first| [1, 3, 5].map(|count| (first, count))) {
+        let left = code.rebuilt(&blocks, |i| i < 6 && i != 2, first, count);
+        println!("6+5 of 20 bytes, columns {first} and {count}: {:08x}", left.digest(1));
     }
 }
 
@@ -146,6 +171,29 @@ fn recoveries() {
     }
 }
 
+/// The last three numbers are the lengths of the data blocks but the last, of the last, and of the room for recovery blocks.
+fn fours() {
+    let calls = [
+        (3, 5, 4, 0, 8, 4, 16), (3, 7, 4, 4, 8, 4, 12), (3, 32, 4, 31, 8, 4, 4), (1, 4, 4, 0, 0, 4, 16),
+        (3, 4, 4, 4, 8, 4, 0), (3, 4, 4, 5, 8, 4, 16), (3, 5, 4, 0, 4, 4, 16), (3, 5, 4, 0, 8, 2, 16),
+        (3, 7, 4, 4, 8, 4, 16), (3, 8, 4, 4, 8, 4, 12), (3, 0, 4, 0, 8, 4, 0), (3, 5, 3, 0, 6, 3, 12),
+        (3, 5, 0, 0, 0, 0, 0), (0, 5, 4, 0, 0, 4, 16), (3, 5, 4098, 0, 8, 4, 16), (1025, 5, 4, 0, 8, 4, 16),
+        (3, 33, 4, 0, 8, 4, 16),
+    ];
+    for (n, m, s, k, front, last, out) in calls {
+        let count = 4.min(if k < m { m - k } else { 0 });
+        let good = is_in_bounds(n, m, s) && count > 0 && (front, last, out) == ((n - 1) * s, s, count * s);
+        let (answer, left) = if good {
+            let data: Vec<Vec<u8>> = content(n * s).chunks(s).map(<[u8]>::to_vec).collect();
+            (DONE, (k..k + count).flat_map(|k| recovery(m, k, &data)).collect())
+        } else {
+            (BAD_SHAPE, vec![0xEE; out])
+        };
+        let left = digest(1, numbers_of(&left));
+        println!("recovery_four {n} {m} {s} {k} front {front} last {last} out {out}: {answer} {left:08x}");
+    }
+}
+
 fn rebuilds() {
     let shapes =
         [(3, 2, 4), (2, 3, 4), (0, 5, 4), (5, 0, 4), (3, 2, 3), (3, 33, 4), (1025, 2, 4), (3, 2, 4098)];
@@ -161,7 +209,10 @@ pub fn print() {
     small_codes();
     full_code();
     wide_code();
+    odd_blocks();
     column_ranges();
+    odd_ranges();
     recoveries();
+    fours();
     rebuilds();
 }

@@ -12,6 +12,7 @@ use crate::fillers::mark_range;
 use crate::fillers::mixed;
 use cauchy::Answer;
 use libc::STDOUT_FILENO;
+ghost use Prim.Native.Nat.{_*_, _≤_};
 
 // 0 for done, and document 01's number for a refusal.
 pub(crate) fn number_of(answer: Answer) -> u64 {
@@ -26,12 +27,23 @@ pub(crate) fn word(text: &[u8]) {
     io::write_all(STDOUT_FILENO, text);
 }
 
-pub(crate) fn decimal(n: usize) {
+fn decimal(n: usize) {
     io::print_decimal(STDOUT_FILENO, n as u64);
+}
+
+pub(crate) fn labelled(text: &[u8], n: usize) {
+    word(text);
+    decimal(n);
 }
 
 pub(crate) fn hex8(n: u64) {
     io::print_hex(STDOUT_FILENO, n, 8);
+}
+
+// The end of a line.
+pub(crate) fn hex_line(n: u64) {
+    hex8(n);
+    word(b"\n");
 }
 
 fn hex2(x: u8) {
@@ -43,6 +55,13 @@ fn hex_bytes(bytes: &[u8]) {
     while i < bytes.len() {
         hex2(bytes[i]);
         i += 1;
+    }
+}
+
+// A call that has to go well: a refusal would spoil the output.
+pub(crate) fn expect_done(answer: Answer) {
+    if number_of(answer) != 0 {
+        word(b"refused\n");
     }
 }
 
@@ -63,14 +82,12 @@ fn put_recovery(
         return at;
     }
     let end = at + s;
-    if number_of(cauchy::recovery(n, m, s, k, content, &mut whole[at..end])) != 0 {
-        word(b"refused\n");
-    }
+    expect_done(cauchy::recovery(n, m, s, k, content, &mut whole[at..end]));
     end
 }
 
 // The data blocks, and after them their recovery blocks.
-fn encode(n: usize, m: usize, s: usize, content: &[u8], whole: &mut [u8]) {
+pub(crate) fn encode(n: usize, m: usize, s: usize, content: &[u8], whole: &mut [u8]) {
     copy(content, whole);
     let mut at = content.len();
     let mut k: usize = 0;
@@ -122,8 +139,7 @@ fn show_set(mask: u64, whole: &[u8]) {
     word(b": ");
     hex_bytes(&scratch);
     word(b" ");
-    hex8(digest);
-    word(b"\n");
+    hex_line(digest);
 }
 
 fn show_sets(whole: &[u8]) {
@@ -142,29 +158,42 @@ pub(crate) fn three_and_two() {
     show_sets(&whole);
 }
 
-// One withheld set of a code of up to eight data and four recovery blocks of four bytes.
-fn small_set(n: usize, m: usize, mask: u64, digest: u64, whole: &[u8]) -> u64 {
+// The longest store that is cut to size here has fifteen blocks of 66 bytes.
+pub(crate) fn bytes_of(blocks: usize, s: usize) -> usize
+    requires { ⌜ (blocks ≤ 15) × (s ≤ 66) ⌝ }
+    ensures { λ r. ⌜ r ≤ 66 * blocks ⌝ }
+{
+    blocks * s
+}
+
+// One withheld set of a code of up to eight data and seven recovery blocks of up to 66 bytes.
+pub(crate) fn small_set(n: usize, m: usize, s: usize, mask: u64, digest: u64, whole: &[u8]) -> u64 {
     if 8 < n {
         return digest;
     }
-    if 4 < m {
+    if 7 < m {
+        return digest;
+    }
+    if 66 < s {
         return digest;
     }
     let all = n + m;
-    let mut marks = [0u8; 12];
-    let mut store = [0u8; 48];
-    let mut scratch = [0u8; 16];
+    let room = bytes_of(all, s);
+    let most = bytes_of(m, s);
+    let mut marks = [0u8; 15];
+    let mut store = [0u8; 990];
+    let mut scratch = [0u8; 462];
     let mut numbers = [0u16; 1024];
     mark_by_mask(&mut marks, mask);
     rebuilt(
         n,
         m,
-        4,
+        s,
         digest,
         whole,
         &marks[..all],
-        &mut store[..all * 4],
-        &mut scratch[..m * 4],
+        &mut store[..room],
+        &mut scratch[..most],
         &mut numbers,
     )
 }
@@ -174,7 +203,7 @@ fn every_set(n: usize, m: usize, sets: u64, whole: &[u8]) -> u64 {
     let mut digest: u64 = 1;
     let mut mask: u64 = 0;
     while mask < sets {
-        digest = small_set(n, m, mask, digest, whole);
+        digest = small_set(n, m, 4, mask, digest, whole);
         mask += 1;
     }
     digest
@@ -197,11 +226,9 @@ fn small_code(n: usize, m: usize) {
     encode(n, m, 4, &content[..n * 4], &mut whole);
     let digest = every_set(n, m, power(n + m), &whole);
     decimal(n);
-    word(b"+");
-    decimal(m);
+    labelled(b"+", m);
     word(b" without every set: ");
-    hex8(digest);
-    word(b"\n");
+    hex_line(digest);
 }
 
 // Each code of one to eight data and up to four recovery blocks.
@@ -220,7 +247,7 @@ fn show_full(label: &[u8], whole: &[u8], marks: &[u8]) {
     word(b"1024+32 without ");
     word(label);
     word(b": ");
-    hex8(rebuilt(
+    hex_line(rebuilt(
         1024,
         32,
         4,
@@ -231,7 +258,6 @@ fn show_full(label: &[u8], whole: &[u8], marks: &[u8]) {
         &mut scratch,
         &mut numbers,
     ));
-    word(b"\n");
 }
 
 fn full_range(label: &[u8], whole: &[u8], from: usize, to: usize) {
@@ -253,8 +279,7 @@ pub(crate) fn full_code() {
     fill(&mut content, 1);
     encode(1024, 32, 4, &content, &mut whole);
     word(b"1024+32 whole: ");
-    hex8(digest_bytes(1, &whole));
-    word(b"\n");
+    hex_line(digest_bytes(1, &whole));
     full_range(b"the first 32", &whole, 0, 32);
     full_range(b"the last 32 data", &whole, 992, 1024);
     full_range(b"24 data and 8 recovery", &whole, 1000, 1032);
@@ -266,26 +291,18 @@ pub(crate) fn full_code() {
 pub(crate) fn wide_code() {
     let mut content = [0u8; 192];
     let mut whole = [0u8; 320];
-    let mut marks = [0u8; 5];
-    let mut store = [0u8; 320];
-    let mut scratch = [0u8; 128];
-    let mut numbers = [0u16; 1024];
     fill(&mut content, 1);
     encode(3, 2, 64, &content, &mut whole);
-    mark_range(&mut marks, 1, 3);
     word(b"3+2 of 64 bytes without 1 and 2: ");
-    hex8(rebuilt(
-        3,
-        2,
-        64,
-        1,
-        &whole,
-        &marks,
-        &mut store,
-        &mut scratch,
-        &mut numbers,
-    ));
-    word(b"\n");
+    hex_line(small_set(3, 2, 64, 0b110, 1, &whole));
+}
+
+// The beginning of a line on a range of columns.
+pub(crate) fn columns(code: &[u8], first: usize, count: usize) {
+    word(code);
+    labelled(b" bytes, columns ", first);
+    labelled(b" and ", count);
+    word(b": ");
 }
 
 // One range of columns: what is not asked for stays dirty.
@@ -305,11 +322,7 @@ fn show_range(first: usize, count: usize, marks: &[u8], store: &[u8]) {
         first,
         count,
     ));
-    word(b"5+3 of 8 bytes, columns ");
-    decimal(first);
-    word(b" and ");
-    decimal(count);
-    word(b": ");
+    columns(b"5+3 of 8", first, count);
     hex8(digest_numbers(mixed(1, answer), &numbers));
     word(b" ");
     hex_bytes(&scratch);

@@ -2,11 +2,28 @@
 use crate::fillers::digest_bytes;
 use crate::fillers::dirty;
 use crate::fillers::fill;
-use crate::runs::decimal;
-use crate::runs::hex8;
+use crate::odd::four_of;
+use crate::runs::hex_line;
+use crate::runs::labelled;
 use crate::runs::number_of;
 use crate::runs::word;
 use libc::STDOUT_FILENO;
+
+// The beginning of a line: a call, the shape, and which recovery block is asked for.
+fn asked(call: &[u8], n: usize, m: usize, s: usize, k: usize) {
+    labelled(call, n);
+    labelled(b" ", m);
+    labelled(b" ", s);
+    labelled(b" ", k);
+}
+
+// The end of a line: the answer, and a digest of what was lent.
+fn left(answer: u64, digest: u64) {
+    word(b": ");
+    io::print_decimal(STDOUT_FILENO, answer);
+    word(b" ");
+    hex_line(digest);
+}
 
 // Twelve bytes of data and a block of four are lent.
 fn show_recovery(n: usize, m: usize, s: usize, k: usize) {
@@ -15,19 +32,8 @@ fn show_recovery(n: usize, m: usize, s: usize, k: usize) {
     fill(&mut content, 1);
     dirty(&mut out);
     let answer = number_of(cauchy::recovery(n, m, s, k, &content, &mut out));
-    word(b"recovery ");
-    decimal(n);
-    word(b" ");
-    decimal(m);
-    word(b" ");
-    decimal(s);
-    word(b" ");
-    decimal(k);
-    word(b": ");
-    io::print_decimal(STDOUT_FILENO, answer);
-    word(b" ");
-    hex8(digest_bytes(1, &out));
-    word(b"\n");
+    asked(b"recovery ", n, m, s, k);
+    left(answer, digest_bytes(1, &out));
 }
 
 pub(crate) fn recoveries() {
@@ -42,6 +48,73 @@ pub(crate) fn recoveries() {
     show_recovery(2, 2, 6, 1);
     show_recovery(3, 2, 4098, 1);
     show_recovery(2, 2, 4, 1);
+}
+
+fn lengths(front: usize, last: usize, out: usize) {
+    labelled(b" front ", front);
+    labelled(b" last ", last);
+    labelled(b" out ", out);
+}
+
+fn show_blocks(
+    n: usize,
+    m: usize,
+    s: usize,
+    k: usize,
+    content: &[u8],
+    front: usize,
+    out: &mut [u8],
+) {
+    dirty(out);
+    let answer = number_of(four_of(n, m, s, k, content, front, out));
+    left(answer, digest_bytes(1, out));
+}
+
+// The last three numbers are the lengths of `front`, of `last` and of `out`: up to 8, 4 and 16 bytes are lent.
+fn show_four(n: usize, m: usize, s: usize, k: usize, front: usize, last: usize, room: usize) {
+    if 8 < front {
+        return;
+    }
+    if 4 < last {
+        return;
+    }
+    if 16 < room {
+        return;
+    }
+    asked(b"recovery_four ", n, m, s, k);
+    lengths(front, last, room);
+    let mut content = [0u8; 12];
+    let mut out = [0u8; 16];
+    fill(&mut content, 1);
+    show_blocks(
+        n,
+        m,
+        s,
+        k,
+        &content[..front + last],
+        front,
+        &mut out[..room],
+    );
+}
+
+pub(crate) fn fours() {
+    show_four(3, 5, 4, 0, 8, 4, 16);
+    show_four(3, 7, 4, 4, 8, 4, 12);
+    show_four(3, 32, 4, 31, 8, 4, 4);
+    show_four(1, 4, 4, 0, 0, 4, 16);
+    show_four(3, 4, 4, 4, 8, 4, 0);
+    show_four(3, 4, 4, 5, 8, 4, 16);
+    show_four(3, 5, 4, 0, 4, 4, 16);
+    show_four(3, 5, 4, 0, 8, 2, 16);
+    show_four(3, 7, 4, 4, 8, 4, 16);
+    show_four(3, 8, 4, 4, 8, 4, 12);
+    show_four(3, 0, 4, 0, 8, 4, 0);
+    show_four(3, 5, 3, 0, 6, 3, 12);
+    show_four(3, 5, 0, 0, 0, 0, 0);
+    show_four(0, 5, 4, 0, 0, 4, 16);
+    show_four(3, 5, 4098, 0, 8, 4, 16);
+    show_four(1025, 5, 4, 0, 8, 4, 16);
+    show_four(3, 33, 4, 0, 8, 4, 16);
 }
 
 // Five held marks, a store of twenty bytes and scratch of eight are lent.
@@ -61,17 +134,10 @@ fn show_rebuild(n: usize, m: usize, s: usize) {
         &mut scratch,
         &mut numbers,
     ));
-    word(b"rebuild ");
-    decimal(n);
-    word(b" ");
-    decimal(m);
-    word(b" ");
-    decimal(s);
-    word(b": ");
-    io::print_decimal(STDOUT_FILENO, answer);
-    word(b" ");
-    hex8(digest_bytes(1, &scratch));
-    word(b"\n");
+    labelled(b"rebuild ", n);
+    labelled(b" ", m);
+    labelled(b" ", s);
+    left(answer, digest_bytes(1, &scratch));
 }
 
 pub(crate) fn rebuilds() {

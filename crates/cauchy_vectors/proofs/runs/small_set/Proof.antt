@@ -24,12 +24,13 @@ small-set-spec =
     (λ c. search needs)
     (λ c. search needs)
     (λ c κs. search needs)
+    (λ c κs. search needs)
+    (λ c. search needs)
+    (λ c κs. search needs)
     (λ c. search needs)
     slice-aggregate-rebuilt
     (λ c. search needs)
-    (λ c. search needs)
     slice-aggregate-rebuilt-2
-    (λ c. search needs)
     (λ c. search needs)
     slice-aggregate-rebuilt-3
     (λ c. search needs)
