@@ -1,10 +1,16 @@
 #!/usr/bin/env bash
-# writer.sh: proves the calls, compiles them for the machine at hand, and prints ratios of one run (bench/writer/main.rs says
-# of what). It wants rustc. Not part of the gate.
+# writer.sh [REVISION]: proves the calls, compiles them for the machine at hand, and prints ratios of one run (bench/writer/main.rs
+# says of what); with a revision, also to the writer as it was there. It wants rustc. Not part of the gate.
 set -euo pipefail
 cd "$(dirname "$0")/.."
+lscpu | sed -n 's/^Model name: */processor: /p'
 for name in blake3_native cauchy_native sfc_native; do bench/native-lib "$name" >/dev/null; done
 mkdir -p target/bench
-rustc --edition 2021 -C opt-level=3 -L native=target/native -l static=sfc_native -l static=cauchy_native \
-  -l static=blake3_native -o target/bench/writer bench/writer/main.rs
+linked=(-l static=sfc_native -l static=cauchy_native -l static=blake3_native)
+if [ $# -gt 0 ]; then
+  bench/native-before "$1" sfc_native sfc_hand_out sfc_write
+  linked+=(-l static=before_sfc_native --cfg before)
+fi
+rustc --edition 2021 -C opt-level=3 -D warnings --check-cfg 'cfg(before)' -L native=target/native "${linked[@]}" \
+  -o target/bench/writer bench/writer/main.rs
 target/bench/writer

@@ -1,5 +1,6 @@
 //! Processor times of a hand-out at the house limits with some data blocks gone, against a plain copy of the same bytes with
-//! the proved hash of them, in one run. Only ratios within a run say something.
+//! the proved hash of them and against the hand-out of an earlier revision where one is linked, in one run. Only ratios within
+//! a run say something.
 #[path = "../../second/src/blake3.rs"]
 #[allow(dead_code)]
 mod blake3;
@@ -21,45 +22,70 @@ mod proved;
 #[allow(dead_code)]
 mod writer;
 
-use measure::{bytes, seconds};
+use measure::{bytes, each_call};
 use writer::Plan;
-
-const RUNS: usize = 9;
 
 fn copy_time(content: &[u8]) -> f64 {
     let mut out = vec![0; content.len()];
-    seconds(RUNS, || {
+    each_call([&mut || {
         out.copy_from_slice(content);
-        proved::hash(&out)
-    })
+        std::hint::black_box(proved::hash(&out));
+    }])[0]
 }
 
-/// With that many data blocks gone, spread over the file, and garbage in their place.
-fn hand_out_time(plan: &Plan, blocks: &[Vec<u8>], gone: usize) -> f64 {
-    let (n, s) = (plan.data_count(), plan.s as usize);
-    let mut marks = vec![1; blocks.len()];
-    let mut store = blocks.concat();
-    for index in (0..gone).map(|i| i * n / gone) {
-        marks[index] = 0;
-        store[index * s..(index + 1) * s].fill(0xA5);
+/// A session that holds all but `gone` data blocks, spread over the file, with garbage in their place.
+struct Session {
+    header: Vec<u8>,
+    store: Vec<u8>,
+    marks: Vec<u8>,
+}
+
+impl Session {
+    fn new(plan: &Plan, blocks: &[Vec<u8>], gone: usize) -> Session {
+        let (n, s) = (plan.data_count(), plan.s as usize);
+        let (mut marks, mut store) = (vec![1; blocks.len()], blocks.concat());
+        for index in (0..gone).map(|i| i * n / gone) {
+            marks[index] = 0;
+            store[index * s..(index + 1) * s].fill(0xA5);
+        }
+        Session { header: plan.file_around(&[]), store, marks }
     }
-    let header = plan.file_around(&[]);
-    let mut scratch = vec![0xEE; plan.m as usize * s];
-    let mut out = vec![0xEE; plan.content.len()];
-    let time =
-        seconds(RUNS, || assert!(proved::hand_out(&header, &store, &marks, &mut scratch, &mut out) == 0, "refused"));
-    assert!(out == plan.content, "the content is wrong");
-    time
+}
+
+type HandOut = fn(&[u8], &[u8], &[u8], &mut [u8], &mut [u8]) -> u8;
+
+/// The times of some ways to hand a session's content out; each must give the plan's content.
+fn hand_out_times<const K: usize>(plan: &Plan, session: &Session, ways: [HandOut; K]) -> [f64; K] {
+    let mut outputs = ways.map(|way| (way, vec![0xEE; plan.m as usize * plan.s as usize], vec![0xEE; plan.content.len()]));
+    let mut calls = outputs.each_mut().map(|(way, scratch, out)| {
+        move || assert!(way(&session.header, &session.store, &session.marks, scratch, out) == 0, "refused")
+    });
+    let times = each_call(calls.each_mut().map(|call| call as &mut dyn FnMut()));
+    assert!(outputs.iter().all(|(_, _, out)| *out == plan.content), "the content is wrong");
+    times
+}
+
+#[cfg(before)]
+fn show(plan: &Plan, session: &Session, label: &str, copy: f64) {
+    let [time, old] = hand_out_times(plan, session, [proved::hand_out, proved::hand_out_before]);
+    println!("{label}: {time:.4} s, {:.2} times the copy; before / now {:.2}", time / copy, old / time);
+}
+
+#[cfg(not(before))]
+fn show(plan: &Plan, session: &Session, label: &str, copy: f64) {
+    let [time] = hand_out_times(plan, session, [proved::hand_out]);
+    println!("{label}: {time:.4} s, {:.2} times the copy", time / copy);
 }
 
 fn main() {
-    let (n, m, s) = (1024, 32, 4096);
-    let plan = Plan { content: bytes(n * s - 1), s: s as u32, m: m as u32, ..Plan::default() };
-    let blocks = plan.blocks();
-    let copy = copy_time(&plan.content);
-    println!("n={n} m={m} s={s}: a copy with its hash takes {copy:.4} s");
-    for gone in [0, 1, 16, 32] {
-        let time = hand_out_time(&plan, &blocks, gone);
-        println!("hand-out with {gone} blocks gone: {time:.4} s, {:.2} times the copy", time / copy);
+    for s in [4096, 64] {
+        let (n, m) = (1024, 32);
+        let plan = Plan { content: bytes(n * s - 1), s: s as u32, m: m as u32, ..Plan::default() };
+        let blocks = plan.blocks();
+        let copy = copy_time(&plan.content);
+        println!("n={n} m={m} s={s}: a copy with its hash takes {copy:.5} s");
+        for gone in [0, 1, 16, 30, 32] {
+            show(&plan, &Session::new(&plan, &blocks, gone), &format!("hand-out with {gone} blocks gone"), copy);
+        }
     }
 }

@@ -1,6 +1,6 @@
-//! Processor times of writing a file at the house limits, in one run: the proved writer, the second program's writer on the
-//! same inputs, and what a writer cannot do without, encoding and hashing, by the proved calls. Only ratios within a run say
-//! something.
+//! Processor times of writing a file at the house limits, in one run: the proved writer, the one of an earlier revision where one
+//! is linked, the second program's writer on the same inputs, and what a writer cannot do without, encoding and hashing, by the
+//! proved calls. Only ratios within a run say something.
 #[path = "../../second/src/blake3.rs"]
 #[allow(dead_code)]
 mod blake3;
@@ -29,11 +29,9 @@ mod proved_hash;
 #[allow(dead_code)]
 mod writer;
 
-use measure::{bytes, in_turn};
+use measure::{bytes, each_call};
 use std::hint::black_box;
 use writer::{encoded, Plan};
-
-const RUNS: usize = 7;
 
 /// With a name, a priority list and a field, and a last data block that is padded.
 fn plan(n: usize, m: usize, s: usize) -> Plan {
@@ -52,11 +50,8 @@ fn plan(n: usize, m: usize, s: usize) -> Plan {
 }
 
 /// The m recovery blocks alone, from data that lie in one piece.
-fn encode(plan: &Plan, data: &[u8]) {
-    let (n, m, s) = (plan.data_count(), plan.m as usize, plan.s as usize);
-    for k in 0..m {
-        black_box(proved_code::recovery(n, m, s, k, data));
-    }
+fn encode(plan: &Plan, data: &[u8], out: &mut [u8]) {
+    proved_code::encode(plan.data_count(), plan.m as usize, plan.s as usize, data, out);
 }
 
 /// The hashes alone: of the content, of the header region, and of each chunk before its own hash.
@@ -77,20 +72,38 @@ fn times(plan: &Plan, file: &[u8]) -> [f64; 4] {
     let mut out = vec![0xEE; file.len()];
     let mut write = || assert!(proved::write(plan, &mut out) == file.len() as u64, "refused, or of another length");
     let mut second = || drop(black_box(plan.write(file.len())));
-    let mut encode = || encode(plan, &data);
+    let mut recovery = vec![0; plan.m as usize * plan.s as usize];
+    let mut encode = || encode(plan, &data, &mut recovery);
     let mut hash = || hash(plan, &region, &chunks);
-    let times = in_turn(RUNS, [&mut write, &mut second, &mut encode, &mut hash]);
+    let times = each_call([&mut write, &mut second, &mut encode, &mut hash]);
     assert!(out == file, "the files differ");
     times
 }
 
+#[cfg(before)]
+fn compare_before(plan: &Plan, file: &[u8]) {
+    let (mut out, mut old) = (vec![0xEE; file.len()], vec![0xEE; file.len()]);
+    let [now, before] = each_call([
+        &mut || assert!(proved::write(plan, &mut out) == file.len() as u64, "refused"),
+        &mut || assert!(proved::write_before(plan, &mut old) == file.len() as u64, "refused"),
+    ]);
+    assert!(out == file && old == file, "the files differ");
+    println!("before / now: {:.2}", before / now);
+}
+
+#[cfg(not(before))]
+fn compare_before(_: &Plan, _: &[u8]) {}
+
 fn main() {
-    let (n, m, s) = (1024, 32, 4096);
-    let plan = plan(n, m, s);
-    let file = plan.write(usize::MAX).expect("the second program refuses the inputs");
-    let [proved, second, encode, hash] = times(&plan, &file);
-    println!("n={n} m={m} s={s}: both write the same {} bytes, the proved writer in {proved:.4} s", file.len());
-    println!("second program / proved: {:.2}", second / proved);
-    println!("proved / encoding and hashing the same bytes: {:.2}", proved / (encode + hash));
-    println!("of the proved writer's time: encoding {:.2}, hashing {:.2}", encode / proved, hash / proved);
+    for s in [4096, 64] {
+        let (n, m) = (1024, 32);
+        let plan = plan(n, m, s);
+        let file = plan.write(usize::MAX).expect("the second program refuses the inputs");
+        let [proved, second, encode, hash] = times(&plan, &file);
+        println!("n={n} m={m} s={s}: both write the same {} bytes, the proved writer in {proved:.5} s", file.len());
+        compare_before(&plan, &file);
+        println!("second program / proved: {:.1}", second / proved);
+        println!("proved / encoding and hashing the same bytes: {:.2}", proved / (encode + hash));
+        println!("of the proved writer's time: encoding {:.2}, hashing {:.2}", encode / proved, hash / proved);
+    }
 }
