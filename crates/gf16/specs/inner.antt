@@ -2,14 +2,14 @@
 -- is a definition.
 use mathlib.Core.Path.{_≡_}
 use mathlib.Core.List.{List}
-use Prim.Native.Nat.{ℕ, _<_}
+use Prim.Native.Nat.{ℕ, _+_, _*_, _<_}
 use lib.ListN.{length, getD}
 use Rattle.gf16.specs.Field.{inv}
 
--- each entry is one over its place, and 0 at 0
+-- entry i is one over the odd number 2 i + 1
 unfoldable pub ListsInverses : List ℕ → Type 0
-ListsInverses xs = (a : ℕ) → a < length xs → getD xs a 0 ≡ inv a
+ListsInverses xs = (i : ℕ) → i < length xs → getD xs i 0 ≡ inv (2 * i + 1)
 
 -- how many the code's table has
 abbrev pub listedCount : ℕ
-listedCount = 1056
+listedCount = 528
