@@ -63,14 +63,15 @@ impl Shape {
     }
 }
 
+/// Times of encoding, of one row and of rebuilding, now and before; all answers and bytes are held to be the same.
 #[cfg(before)]
-fn against_before(label: &str, shape: Shape) {
+fn now_and_before(shape: Shape) -> [(f64, f64); 3] {
     let Shape { n, m, s, .. } = shape;
     let given = shape.given();
     let (mut ours, mut theirs, mut mine, mut other) = (vec![0; m * s], vec![0; m * s], vec![0; s], vec![0; s]);
     let (mut scratch, mut old_scratch) = (vec![0xEE; m * s], vec![0xEE; m * s]);
     let (mut numbers, mut old_numbers) = (vec![7; 1024], vec![7; 1024]);
-    let times = each_call([
+    let [encode, old_encode, one, old_one, rebuild, old_rebuild] = each_call([
         &mut || proved::encode(n, m, s, &given.data, &mut ours),
         &mut || before::encode(n, m, s, &given.data, &mut theirs),
         &mut || proved::recovery(n, m, s, 0, &given.data, &mut mine),
@@ -79,11 +80,33 @@ fn against_before(label: &str, shape: Shape) {
         &mut || before::rebuild_all(n, m, s, &given.store, &given.marks, &mut old_scratch, &mut old_numbers),
     ]);
     assert!((ours, mine, scratch, numbers) == (theirs, other, old_scratch, old_numbers), "before and now differ");
-    let [encode, old_encode, one, old_one, rebuild, old_rebuild] = times;
-    println!(
-        "  {label:<28} encode {:5.2}, one row {:5.2}, rebuild {:5.2} (now {:.2}, {:.2} and {:.2} us)",
-        old_encode / encode, old_one / one, old_rebuild / rebuild, encode * 1e6, one * 1e6, rebuild * 1e6
-    );
+    [(encode, old_encode), (one, old_one), (rebuild, old_rebuild)]
+}
+
+#[cfg(before)]
+fn against_before(label: &str, shape: Shape) {
+    let times = now_and_before(shape);
+    let [encode, one, rebuild] = times.map(|(now, before)| before / now);
+    let [now_encode, now_one, now_rebuild] = times.map(|(now, _)| now * 1e6);
+    println!("  {label:<30} encode {encode:5.2}, one row {one:5.2}, rebuild {rebuild:5.2} (now {now_encode:.2}, {now_one:.2} and {now_rebuild:.2} us)");
+}
+
+/// The least ratios of many small codes: where little is to be done, tables and room must not cost more than they save.
+#[cfg(before)]
+fn least_of_small_codes() {
+    let mut shapes = Vec::new();
+    for n in [1, 2, 5, 40] {
+        for m in [1, 2, 5, 32] {
+            for s in [2, 6, 16, 30, 64, 300, 1024, 2048] {
+                shapes.extend([0, 1, 2, 5, 32].iter().filter(|gone| **gone <= n.min(m)).map(|gone| Shape { n, m, s, gone: *gone }));
+            }
+        }
+    }
+    let least = shapes.iter().fold([f64::MAX; 3], |least, shape| {
+        let ratios = now_and_before(*shape).map(|(now, before)| before / now);
+        [least[0].min(ratios[0]), least[1].min(ratios[1]), least[2].min(ratios[2])]
+    });
+    println!("  the least of {} small codes     encode {:5.2}, one row {:5.2}, rebuild {:5.2}", shapes.len(), least[0], least[1], least[2]);
 }
 
 #[cfg(before)]
@@ -91,15 +114,15 @@ fn compare_before() {
     println!("before / now, the same answers and bytes:");
     against_before("the largest code, 30 gone", LARGEST);
     against_before("S = 64", Shape { s: 64, ..LARGEST });
-    against_before("1 gone", Shape { gone: 1, ..LARGEST });
-    against_before("M = 1", Shape { m: 1, gone: 1, ..LARGEST });
-    against_before("N = 1", Shape { n: 1, gone: 1, ..LARGEST });
     against_before("S = 2", Shape { s: 2, ..LARGEST });
-    against_before("M = 1, S = 2", Shape { m: 1, s: 2, gone: 1, ..LARGEST });
-    against_before("N = 1, S = 64", Shape { n: 1, s: 64, gone: 1, ..LARGEST });
-    against_before("N = 1, M = 1, S = 2", Shape { n: 1, m: 1, s: 2, gone: 1 });
-    against_before("N = 4, M = 4, all gone", Shape { n: 4, m: 4, gone: 4, ..LARGEST });
-    against_before("N = 32, M = 32, all gone", Shape { n: 32, gone: 32, ..LARGEST });
+    against_before("1 gone", Shape { gone: 1, ..LARGEST });
+    against_before("M = 1, 1 gone", Shape { m: 1, gone: 1, ..LARGEST });
+    against_before("N = 1, 1 gone", Shape { n: 1, gone: 1, ..LARGEST });
+    against_before("N = 4, M = 4, 4 gone", Shape { n: 4, m: 4, gone: 4, ..LARGEST });
+    against_before("N = 32, 32 gone", Shape { n: 32, gone: 32, ..LARGEST });
+    against_before("N = 1, S = 64, 1 gone", Shape { n: 1, s: 64, gone: 1, ..LARGEST });
+    against_before("N = 1, M = 1, S = 2, 1 gone", Shape { n: 1, m: 1, s: 2, gone: 1 });
+    least_of_small_codes();
 }
 
 #[cfg(not(before))]
@@ -136,7 +159,7 @@ fn compare_second(encode: f64, rebuild: f64) {
     let Shape { n, m, s, .. } = LARGEST;
     let given = LARGEST.given();
     let blocks: Vec<Vec<u8>> = given.data.chunks(s).map(|b| b.to_vec()).collect();
-    let second_encode = seconds(3, || (0..m).map(|k| code::recovery(m, k, &blocks)[0] as usize).sum::<usize>());
+    let second_encode = seconds(3, || assert!((0..m).flat_map(|k| code::recovery(m, k, &blocks)).eq(given.recovery.iter().copied())));
     let held: Vec<Option<Vec<u8>>> =
         given.store.chunks(s).zip(&given.marks).map(|(b, mark)| (*mark == 1).then(|| b.to_vec())).collect();
     let second_rebuild = seconds(3, || assert!(code::decode(n, m, &held).unwrap() == blocks));

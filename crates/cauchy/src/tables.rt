@@ -4,7 +4,7 @@ ghost use Prim.Native.Nat.{_+_, _*_, _/_, _%_, _≤_, _<_};
 ghost use lib.ListN.{length, getD, set, replicate};
 ghost use lib.Bits.{bitXor};
 ghost use Rattle.cauchy.specs.Code.{fieldSize, wordBytes};
-ghost use Rattle.cauchy.specs.inner.Packed.{Packed, Doubled, Spread, Filled, Sized, FilledBoth, looked, AddedTo, AddedMore, AddedBy, AddedFour, weightOf, mixedWord, timesWord, plusTimes, MixedBy, ScaledBy, TimesBy, Summed};
+ghost use Rattle.cauchy.specs.inner.Packed.{Packed, Doubled, Spread, Filled, Sized, FilledBoth, looked, AddedTo, AddedMore, AddedBy, AddedFour, weightOf, mixedWord, timesWord, plusTimes, MixedBy, ScaledBy, Summed};
 
 // A table has an entry for each value of a byte.
 pub const ENTRIES: usize = 256;
@@ -285,29 +285,18 @@ pub fn scale(dst: &mut [u8], one: &mut [u8], c: u16, d: u16)
     scale_words(dst, one, &low, &high);
 }
 
-// Each word of dst becomes row 0 of its products.
-fn times_words(dst: &mut [u8], low: &[u64; ENTRIES], high: &[u64; ENTRIES])
-    requires { ⌜ length (now dst) % 2 ≡ 0 ⌝ }
-    ensures { λ _. ⌜ TimesBy (now (low .entry)) (now (high .entry)) (now (dst .entry)) (now (dst .exit)) ⌝ }
-{
-    let mut w: usize = 0;
-    while w < dst.len() / 2 {
-        let v = look(dst[2 * w], dst[2 * w + 1], low, high) % 0x1_0000;
-        dst[2 * w] = (v % 256) as u8;
-        dst[2 * w + 1] = (v / 256 % 256) as u8;
-        w += 1;
-    }
-}
-
-// dst is multiplied by c.
+// dst is multiplied by c, without tables: an unknown is multiplied once, and to fill two tables would cost short ranges more.
 pub fn times(dst: &mut [u8], c: u16)
     requires { ⌜ length (now dst) % 2 ≡ 0 ⌝ }
     ensures { λ _. ⌜ now (dst .exit) ≡ wordBytes (timesWord c (now (dst .entry))) 0 (length (now (dst .entry)) / 2) ⌝ }
 {
-    let mut low = [0u64; ENTRIES];
-    let mut high = [0u64; ENTRIES];
-    fill_both(&mut low, &mut high, pack_four(c, 0, 0, 0));
-    times_words(dst, &low, &high);
+    let mut w: usize = 0;
+    while w < dst.len() / 2 {
+        let v = gf16::mul(c, word(dst[2 * w], dst[2 * w + 1]) as u16);
+        dst[2 * w] = (v % 256) as u8;
+        dst[2 * w + 1] = (v / 256) as u8;
+        w += 1;
+    }
 }
 
 // Adds src to dst.

@@ -152,10 +152,6 @@ ScaledBy low high dst one dst′ one′ =
     (c d : ℕ) → Elem c → Elem d → Tables c d 0 0 low high
     → (dst′ ≡ wordBytes (timesWord c dst) 0 (length dst / 2)) × (one′ ≡ wordBytes (plusTimes d one dst) 0 (length dst / 2))
 
--- the first alone
-abbrev pub TimesBy : List ℕ → List ℕ → List ℕ → List ℕ → Type 0
-TimesBy low high dst made = (c : ℕ) → Elem c → Tables c 0 0 0 low high → made ≡ wordBytes (timesWord c dst) 0 (length dst / 2)
-
 -- each byte of dst has got the byte of src at its place
 pub record Summed (dst src made : List ℕ) : Type 0 where
   pub size : length made ≡ length dst
