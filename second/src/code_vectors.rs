@@ -116,10 +116,12 @@ fn full_code() {
     show("the first 33", &|i| i < 33);
 }
 
-fn wide_code() {
-    let code = Code { n: 3, m: 2, s: 64 };
-    let left = code.rebuilt_all(&code.blocks(), |i| i == 1 || i == 2);
-    println!("3+2 of 64 bytes without 1 and 2: {:08x}", left.digest(1));
+fn wide_codes() {
+    for s in [64, 514] {
+        let code = Code { n: 3, m: 2, s };
+        let left = code.rebuilt_all(&code.blocks(), |i| i == 1 || i == 2);
+        println!("3+2 of {s} bytes without 1 and 2: {:08x}", left.digest(1));
+    }
 }
 
 /// Blocks of 1, 3, 5, 31 and 33 words. There is one way to encode here, so its digest stands for both of the calls.
@@ -208,7 +210,7 @@ pub fn print() {
     three_and_two();
     small_codes();
     full_code();
-    wide_code();
+    wide_codes();
     odd_blocks();
     column_ranges();
     odd_ranges();

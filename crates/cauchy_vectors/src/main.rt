@@ -1,6 +1,6 @@
 // Prints what the code answers, for comparison with the second program: every set of indices withheld from small codes, codes
-// at the limits, ranges of columns, odd numbers of words, and shapes that are refused. Lent memory is dirty, and garbage lies
-// where nothing is held.
+// at the limits, ranges of columns, odd numbers of words, long blocks, and shapes that are refused. Lent memory is dirty, and
+// garbage lies where nothing is held.
 mod fillers;
 mod odd;
 mod runs;
@@ -11,6 +11,7 @@ fn main() {
     runs::small_codes();
     runs::full_code();
     runs::wide_code();
+    runs::long_code();
     odd::blocks();
     runs::column_ranges();
     odd::ranges();

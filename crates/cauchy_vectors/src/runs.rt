@@ -297,6 +297,31 @@ pub(crate) fn wide_code() {
     hex_line(small_set(3, 2, 64, 0b110, 1, &whole));
 }
 
+// The same of 514 bytes, a longer range than those that are solved in a short room.
+pub(crate) fn long_code() {
+    let mut content = [0u8; 1542];
+    let mut whole = [0u8; 2570];
+    let mut marks = [0u8; 5];
+    let mut store = [0u8; 2570];
+    let mut scratch = [0u8; 1028];
+    let mut numbers = [0u16; 1024];
+    fill(&mut content, 1);
+    encode(3, 2, 514, &content, &mut whole);
+    mark_by_mask(&mut marks, 0b110);
+    word(b"3+2 of 514 bytes without 1 and 2: ");
+    hex_line(rebuilt(
+        3,
+        2,
+        514,
+        1,
+        &whole,
+        &marks,
+        &mut store,
+        &mut scratch,
+        &mut numbers,
+    ));
+}
+
 // The beginning of a line on a range of columns.
 pub(crate) fn columns(code: &[u8], first: usize, count: usize) {
     word(code);
