@@ -7,7 +7,7 @@ use lib.ListN.{length, getD, drop}
 use lib.Dec.{ltb, leb, eqb}
 use Rattle.little.specs.Fields.{bytesOf}
 use Rattle.little.specs.Runs.{zeros}
-use Rattle.cauchy.specs.Code.{mostData, mostRecovery, leastBlock, mostBlock, inverseRoom, joined, recoveryBlock}
+use Rattle.cauchy.specs.Code.{mostData, mostRecovery, leastBlock, mostBlock, numbersRoom, joined, recoveryBlock}
 use Rattle.cauchy.specs.Decode.{holding, missingData, foundWords, decode}
 use Rattle.cauchy.specs.declared.Answer.{Answer}
 
@@ -76,7 +76,7 @@ filled s first count e g base =
 -- what is lent has another length than the shape asks for, or the columns asked for do not all exist
 unfoldable pub wrongMemory : ℕ → ℕ → ℕ → ℕ → ℕ → ℕ → ℕ → ℕ → ℕ → Bool
 wrongMemory n m s marks store scratch numbers first count =
-    not (eqb marks (n + m)) || not (eqb store ((n + m) * s)) || not (eqb scratch (m * s)) || not (eqb numbers inverseRoom) || ltb (s / 2) first || ltb (s / 2 - first) count
+    not (eqb marks (n + m)) || not (eqb store ((n + m) * s)) || not (eqb scratch (m * s)) || not (eqb numbers numbersRoom) || ltb (s / 2) first || ltb (s / 2 - first) count
 
 -- what `rebuild` and `rebuild_all` leave
 pub record Rebuilt : Type 0 where
@@ -99,7 +99,7 @@ rebuildSpec n m s marks store scratch numbers first count =
     (rebuilt scratch numbers Answer.BadShape)
     (cond (ltb (holding marks) n)
     (rebuilt scratch numbers Answer.TooFew)
-    (rebuilt (rebuiltScratch n m s marks store first count scratch) (zeros inverseRoom) Answer.Done))
+    (rebuilt (rebuiltScratch n m s marks store first count scratch) (zeros numbersRoom) Answer.Done))
 
 -- ---- rebuild_all
 
@@ -115,4 +115,4 @@ rebuildAllSpec n m s marks store scratch numbers =
     (rebuilt scratch numbers Answer.BadShape)
     (cond (ltb (holding marks) n)
     (rebuilt scratch numbers Answer.TooFew)
-    (rebuilt (decodedScratch n m s marks store scratch) (zeros inverseRoom) Answer.Done))
+    (rebuilt (decodedScratch n m s marks store scratch) (zeros numbersRoom) Answer.Done))

@@ -30,9 +30,9 @@ mostBlock = 4096
 abbrev pub fieldSize : ℕ
 fieldSize = 65536
 
--- room for field elements that is lent to a rebuilding: 32 times 32, as many as the inverse of the largest system has
-abbrev pub inverseRoom : ℕ
-inverseRoom = 1024
+-- how many field elements the room has that is lent to a rebuilding
+abbrev pub numbersRoom : ℕ
+numbersRoom = 1024
 
 -- the mark of an index that is held
 abbrev pub heldMark : ℕ

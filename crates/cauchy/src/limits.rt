@@ -9,8 +9,8 @@ pub(crate) const MOST_BLOCK: usize = 4096;
 
 pub(crate) const MOST_WORDS: usize = MOST_BLOCK / 2;
 
-// Room for field elements that is lent to a rebuilding: as many as the inverse of the largest system has.
-pub(crate) const INVERSE_ROOM: usize = MOST_RECOVERY * MOST_RECOVERY;
+// How many field elements the room has that is lent to a rebuilding.
+pub(crate) const NUMBERS_ROOM: usize = 1024;
 
 // The mark of an index that is held; every other mark is of one that is not.
 pub(crate) const HELD: u8 = 1;

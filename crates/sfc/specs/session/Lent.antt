@@ -24,8 +24,8 @@ marksWrong size n m s marks = shapeWrong size n m s || not (eqb (length marks) (
 unfoldable pub lentWrong : ℕ → ℕ → ℕ → ℕ → List ℕ → List ℕ → Bool
 lentWrong size n m s store marks = marksWrong size n m s marks || not (eqb (length store) ((n + m) * s))
 
--- what is lent beside store and marks to a call that may rebuild: scratch for the rebuilt blocks, the numbers in which they are
--- solved for, the output
+-- what is lent beside store and marks to a call that may rebuild: scratch for the rebuilt blocks, room for
+-- numbers, the output
 pub record Lent : Type 0 where
   pub scratch : List ℕ
   pub numbers : List ℕ

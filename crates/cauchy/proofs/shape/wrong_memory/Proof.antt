@@ -8,7 +8,7 @@ use Rattle.cauchy.proofs.shape.ShapeLaws.{right, few}
 use borrow.Author.Needs.{needs}
 use Rattle.cauchy.proofs.shape.wrong_memory.Statement.{statement}
 use Rattle.cauchy.proofs.shape.wrong_memory.Tie as tie
-use Rattle.cauchy.specs.Code.{inverseRoom}
+use Rattle.cauchy.specs.Code.{numbersRoom}
 use Rattle.cauchy.specs.Calls.{wrongMemory}
 
 add-result : tie.Need-add-result
@@ -25,7 +25,7 @@ mul-result-2 c = let a = c .before .args in let g = right (a .n) (a .m) (a .s) (
 
 returns : tie.Need-returns
 unfolding wrongMemory
-returns c = let a = c .before .args in ap (λ (x : ℕ). not (eqb (a .marks) (a .n + a .m)) || not (eqb (a .store) ((a .n + a .m) * a .s)) || not (eqb (a .scratch) (a .m * a .s)) || not (eqb (a .numbers) inverseRoom) || ltb (a .s / 2) (a .first) || ltb x (a .count)) (c .minus-or-zero .ensures)
+returns c = let a = c .before .args in ap (λ (x : ℕ). not (eqb (a .marks) (a .n + a .m)) || not (eqb (a .store) ((a .n + a .m) * a .s)) || not (eqb (a .scratch) (a .m * a .s)) || not (eqb (a .numbers) numbersRoom) || ltb (a .s / 2) (a .first) || ltb x (a .count)) (c .minus-or-zero .ensures)
 
 pub wrong-memory-spec : {M : Type 1} → statement M
 wrong-memory-spec =
