@@ -134,28 +134,26 @@ fn check_priorities(head: &Head, rest: &mut Rest) -> Result<(), u8> {
     must(different.last().is_none_or(|&greatest| greatest < head.n), 20)
 }
 
-/// 21.
+/// 21. Fields come in any order; a tag that has no rule is skipped each time that it comes.
 fn check_extension(head: &Head, rest: &mut Rest) -> Result<(), u8> {
-    let mut previous = None;
+    let mut met = BTreeSet::new();
     while !rest.0.is_empty() {
         let tag = rest.number(2).ok_or(21)?;
         let length = rest.number(4).ok_or(21)?;
         rest.bytes(length).ok_or(21)?;
-        must(previous < Some(tag), 21)?;
         must(length <= 16_384, 21)?;
         let lawful = match tag {
             0x0020 => length == 8 * (head.n + head.m) && is_set(head.flags, 6),
             0x0030 => length == 2 && is_set(head.flags, 7),
             0x0100..=0x0104 => (1..=4096).contains(&length),
-            _ => true,
+            _ => continue,
         };
-        must(lawful, 21)?;
-        previous = Some(tag);
+        must(lawful && met.insert(tag), 21)?;
     }
     Ok(())
 }
 
-/// The place in the input where the value of the field with this tag begins, and its length; or the header's number.
+/// The place in the input where the value of the first field with this tag begins, and its length; or the header's number.
 pub fn find_field(input: &[u8], wanted: u64) -> Result<Option<(usize, u64)>, u8> {
     let head = read_header(input)?;
     Ok(field_before(12 + head.header_length as usize, input, wanted))

@@ -19,7 +19,8 @@ fn some_plan(chance: &mut Chance) -> Plan {
     let size = blocks * s as usize + chance.below(s as usize + 1);
     let name = chance.below(12);
     let length = chance.below(5);
-    let fields = [(pick(chance, &[0x0001, 0x0013, 0x0200]), chance.bytes(length))];
+    let tag = pick(chance, &[0x0001, 0x0013, 0x0200]);
+    let fields = [(tag, chance.bytes(length)), (tag, chance.bytes(length))];
     let mut plan = Plan {
         content: chance.bytes(size),
         s,
@@ -30,7 +31,7 @@ fn some_plan(chance: &mut Chance) -> Plan {
         name: (0..name).map(|_| 1 + chance.below(255) as u8).collect(),
         flags: pick(chance, &[0, 0, 0, 0x10, 0x40, 0xFFD0]),
         priorities: vec![],
-        fields: encoded(&fields[..chance.below(2)]),
+        fields: encoded(&fields[..chance.below(3)]),
     };
     if chance.below(4) == 0 {
         plan.priorities = vec![chance.below(plan.data_count()) as u32];

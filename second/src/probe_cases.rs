@@ -112,6 +112,8 @@ const READING: &[Part] = &[
     headers::header_lengths,
     headers::priority_lists,
     extensions::extension_order,
+    extensions::extension_repeats,
+    extensions::known_repeats,
     extensions::extension_ends,
     extensions::extension_rules,
     extensions::lookups,

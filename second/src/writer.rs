@@ -128,7 +128,9 @@ impl Plan {
         must(self.s > 0, 60)?;
         must(self.data_count() <= u32::MAX as usize && self.priorities.len() <= u16::MAX.into(), 60)?;
         must(self.name.len() <= 255 && !self.name.contains(&0), 60)?;
-        must(tags(&self.fields).iter().all(|tag| !(0x0010..=0x0012).contains(tag)), 60)?;
+        let tags = tags(&self.fields);
+        must(tags.iter().all(|tag| !(0x0010..=0x0012).contains(tag)), 60)?;
+        must(tags.windows(2).all(|two| two[0] <= two[1]), 60)?;
         let region = self.region();
         must(LENGTHS.contains(&(region.len() as u64 - 4)), 60)?;
         read_region(&region).map(|_| ()).or(Err(60))

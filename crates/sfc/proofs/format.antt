@@ -8,5 +8,5 @@ pub mod HeaderLaws
 pub mod ChunkLaws
 pub mod LookupLaws
 pub mod FieldInside
-pub mod ReservedLaws
+pub mod TagLaws
 pub mod PlaceLaws

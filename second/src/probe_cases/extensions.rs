@@ -1,4 +1,4 @@
-//! Extension fields: their order, their ends, and the rule of each tag.
+//! Extension fields: their order, tags that come again, their ends, and the rule of each tag.
 use super::headers::{at, breaches, breakable, shape};
 use crate::probe::*;
 use crate::script::*;
@@ -29,18 +29,81 @@ fn extension(script: &mut Script, title: &str, flags: u16, bytes: &[u8]) {
     script.read();
 }
 
+/// A tag that has a rule, and a length that its rule wants in a file of seven blocks with flag bits 6 and 7.
+const KNOWN: [(u16, usize); 7] =
+    [(0x0020, 56), (0x0030, 2), (0x0100, 1), (0x0101, 1), (0x0102, 1), (0x0103, 1), (0x0104, 1)];
+
+/// Fields with these tags and lengths, one after the other.
+fn list<'a>(fields: impl IntoIterator<Item = &'a (u16, usize)>) -> Vec<u8> {
+    fields.into_iter().flat_map(|&(tag, length)| field(tag, length as u32, length)).collect()
+}
+
+/// Any order is read.
 pub fn extension_order(script: &mut Script) {
-    let two = |first, second| [field(first, 1, 1), field(second, 1, 1)].concat();
-    extension(script, "tags rising by one", 0, &two(0x0200, 0x0201));
-    extension(script, "equal unknown tags", 0, &two(0x0200, 0x0200));
-    extension(script, "tags falling by one", 0, &two(0x0201, 0x0200));
-    extension(script, "tags that fall where bytes are read big-endian", 0, &two(0x01FF, 0x0200));
-    extension(script, "tag 0 first", 0, &two(0, 1));
-    extension(script, "tag 0 twice", 0, &two(0, 0));
-    extension(script, "the greatest tag twice", 0, &two(0xFFFF, 0xFFFF));
-    extension(script, "D.14 tag 0x0030 twice", 0x80, &[field(0x0030, 2, 2), field(0x0030, 2, 2)].concat());
-    extension(script, "equal metadata tags", 0, &two(0x0101, 0x0101));
-    extension(script, "the third tag falls", 0, &[two(0x0200, 0x0300), field(0x02FF, 0, 0)].concat());
+    extension(script, "tags rising by one", 0, &list(&[(0x0200, 1), (0x0201, 1)]));
+    extension(script, "tags falling by one", 0, &list(&[(0x0201, 1), (0x0200, 1)]));
+    extension(script, "tags that fall where bytes are read big-endian", 0, &list(&[(0x01FF, 1), (0x0200, 1)]));
+    extension(script, "tag 0 first", 0, &list(&[(0, 1), (1, 1)]));
+    extension(script, "the third tag falls", 0, &list(&[(0x0200, 1), (0x0300, 1), (0x02FF, 0)]));
+    let falling = list(&[(0x0104, 1), (0x0030, 2), (0x0100, 1)]);
+    extension(script, "known tags in no order", 0x80, &falling);
+    extension(script, "known tags in no order, and a flag bit not set", 0, &falling);
+    extension(script, "each known tag once, falling", 0xC0, &list(KNOWN.iter().rev()));
+}
+
+/// Foreign tags are read as often as they come.
+pub fn extension_repeats(script: &mut Script) {
+    extension(script, "equal unknown tags", 0, &list(&[(0x0200, 1), (0x0200, 1)]));
+    // each of these is next to a known tag or a reserved one, or is at an end of all
+    for tag in [0, 0x0010, 0x0011, 0x0012, 0x001F, 0x0021, 0x002F, 0x0031, 0x00FF, 0x0105, 0x2000, 0xFFFF] {
+        extension(script, &format!("tag {tag:#06x} twice"), 0, &list(&[(tag, 1), (tag, 1)]));
+    }
+    let among = [(0x0200, 2), (0x0030, 2), (0x0200, 0), (0x0104, 1), (0x0100, 1), (0x0200, 2)];
+    extension(script, "a foreign tag three times among known ones", 0x80, &list(&among));
+    extension(script, "a byte left over behind a repeat", 0, &[list(&[(0x0200, 1), (0x0200, 1)]), vec![0]].concat());
+    filled_with_fields(script);
+}
+
+/// A known tag is refused when it comes again, wherever that is.
+pub fn known_repeats(script: &mut Script) {
+    for (tag, length) in KNOWN {
+        let one = (tag, length);
+        let foreign = (0x0200, 2);
+        let case = if tag == 0x0030 { "D.14 " } else { "" };
+        extension(script, &format!("{case}tag {tag:#06x} twice"), 0xC0, &list(&[one, one]));
+        extension(script, &format!("tag {tag:#06x} twice, a foreign one between"), 0xC0, &list(&[one, foreign, one]));
+        let others: Vec<(u16, usize)> = KNOWN.into_iter().filter(|&other| other != one).collect();
+        let around = [&[one, foreign][..], &others, &[foreign, one]].concat();
+        extension(script, &format!("tag {tag:#06x} first and last"), 0xC0, &list(&around));
+        extension(script, &format!("tag {tag:#06x} again, with no bytes"), 0xC0, &list(&[one, foreign, (tag, 0)]));
+        let in_value = [field(0x0200, 6 + length as u32, 0), list(&[one, one])].concat();
+        extension(script, &format!("tag {tag:#06x} in a foreign value, and after it"), 0xC0, &in_value);
+    }
+    let left_over = [list(&[(0x0030, 2), (0x0030, 2)]), vec![0]].concat();
+    extension(script, "a byte left over behind a known tag's repeat", 0x80, &left_over);
+}
+
+/// A region filled with empty fields of tag 0, which are zeros: as many as H can count and a few bytes more; then with known tags
+/// before and after them.
+fn filled_with_fields(script: &mut Script) {
+    script.load(&extended(0, &[]));
+    for bytes in [6 * 10_866, 6 * 10_867, 6 * 10_867 + 1, 6 * 10_867 + 3] {
+        script.say(&format!("{} empty fields, {} over", bytes / 6, bytes % 6));
+        script.edit(&[Four(at::H, 331 + bytes)]);
+        script.frame(LONG_HEADER, 0, bytes, 0);
+    }
+    let (one, other) = (&KNOWN[3..4], &KNOWN[4..5]);
+    for (title, before, after) in [
+        ("one known tag before and after", one, one),
+        ("two known tags before and after", one, other),
+        ("each known tag before", &KNOWN[..], &[]),
+        ("each known tag after", &[], &KNOWN[..]),
+    ] {
+        script.say(&format!("{title} 10,800 empty fields"));
+        script.load_sparse(&extended(0xC0, &[list(before), vec![0; 6 * 10_800], list(after)].concat()));
+        script.seal();
+        script.read();
+    }
 }
 
 pub fn extension_ends(script: &mut Script) {
@@ -116,8 +179,13 @@ pub fn lookups(script: &mut Script) {
             script.frame(FIND_FIELD, 0, tag, 0);
         }
     }
-    extension(script, "the first of equal tags", 0, &[field(0x0200, 3, 3), field(0x0200, 1, 1)].concat());
+    extension(script, "the first of equal tags", 0, &list(&[(0x0200, 3), (0x0200, 1)]));
     script.frame(FIND_FIELD, 0, 0x0200, 0);
+    let behind = [(0x0300, 2), (0x0200, 3), (0x0300, 0), (0x0200, 1)];
+    extension(script, "the first of equal tags, behind a greater one", 0, &list(&behind));
+    for tag in [0x0200, 0x0300, 0x02FF] {
+        script.frame(FIND_FIELD, 0, tag, 0);
+    }
 }
 
 /// The last field with other H and the first with other P, each as it is and sealed; then any in a header of each refusal.

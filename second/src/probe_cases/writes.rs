@@ -97,6 +97,9 @@ pub fn round_trips(script: &mut Script) {
     let fields: Vec<(u16, Vec<u8>)> = tags.into_iter().map(|(tag, length)| (tag, text(length))).collect();
     let full = Plan { fields: encoded(&fields), flags: 0xC0, priorities: vec![2], ..plan(14, 4, 1) };
     trip("fields of every rule, and a list", &full);
+    let again = [(0x01, 0), (0x01, 3), (0x0100, 1), (0x0200, 2), (0x0200, 2), (0x0200, 0), (0xFFFF, 1), (0xFFFF, 1)];
+    let fields: Vec<(u16, Vec<u8>)> = again.into_iter().map(|(tag, length)| (tag, text(length))).collect();
+    trip("foreign tags side by side", &Plan { fields: encoded(&fields), ..plan(14, 4, 1) });
 }
 
 /// Each of the numbers at its bounds and past them.
@@ -190,6 +193,7 @@ pub fn fields(script: &mut Script) {
     for left in 1..6 {
         judge(script, &format!("{left} bytes that are no field"), 0, text(left));
     }
+    orders(script);
     for (title, flags, bytes) in [
         ("0x0020 with 8(N+M) bytes and bit 6", 0x40, field(0x0020, 56, 56)),
         ("0x0020 without bit 6", 0x80, field(0x0020, 56, 56)),
@@ -205,6 +209,36 @@ pub fn fields(script: &mut Script) {
         judge(script, title, flags, bytes);
     }
     longest(script);
+}
+
+/// Tags that come again or fall, alone and at the front, in the middle and at the end of a longer list.
+fn orders(script: &mut Script) {
+    let list = |tags: &[u16]| tags.iter().flat_map(|&tag| field(tag, 1, 1)).collect::<Vec<u8>>();
+    let written = |tags: &[u16]| Plan { fields: list(tags), ..plan(18, 4, 2) };
+    for (title, tags) in [
+        ("equal foreign tags side by side", &[0x0300, 0x0300][..]),
+        ("equal foreign tags apart", &[0x0300, 0x0301, 0x0300]),
+        ("equal known tags side by side", &[0x0101, 0x0101]),
+        ("equal known tags apart", &[0x0101, 0x0102, 0x0101]),
+        ("known tags that fall", &[0x0102, 0x0101]),
+        ("foreign tags that fall", &[0x0302, 0x0301]),
+        ("a foreign tag below a known one", &[0x0101, 0x00FF]),
+    ] {
+        let (before, after) = (&[0x0002, 0x0003][..], &[0x0400, 0x0400, 0x0500][..]);
+        judged(script, title, &written(tags));
+        judged(script, &format!("{title}, before others"), &written(&[tags, after].concat()));
+        judged(script, &format!("{title}, among others"), &written(&[before, tags, after].concat()));
+        judged(script, &format!("{title}, after others"), &written(&[before, tags].concat()));
+    }
+    judged(
+        script,
+        "a fall before bytes that are no field",
+        &Plan { fields: [list(&[2, 1]), vec![0]].concat(), ..plan(18, 4, 2) },
+    );
+    load(script, "tags that fall: 60 before 61", &written(&[0x0302, 0x0301]));
+    for room in [0, ROOM] {
+        write(script, room);
+    }
 }
 
 /// Fields that are made of zeros after the inputs' numbers and name: tags rising from a first, and their lengths.

@@ -11,14 +11,14 @@ use Rattle.little.specs.Fields.{Bytes}
 use Rattle.little.specs.Parts.{part, put}
 use Rattle.little.proofs.Laws.{partLaws, blockLaws}
 use Rattle.cauchy.specs.Code.{joined}
-use Rattle.little.specs.Runs.{any, risingFrom}
+use Rattle.little.specs.Runs.{any}
 use Rattle.sfc.specs.format.Limits.{wantedBlocks}
 use Rattle.sfc.specs.session.Lent.{shapeWrong}
-use Rattle.sfc.specs.format.Extension.{fieldsIn, leftIn, extensionWrong}
+use Rattle.sfc.specs.format.Extension.{fieldsIn, leftIn, knownTwice, extensionWrong}
 use Rattle.sfc.specs.format.Header.{flagsBarred, distinctBelow, acceptedHeader, readHeader}
 use Rattle.sfc.specs.format.Chunk.{indexOf, payloadOf, chunkChecks, aloneChecks, checkChunk}
 use Rattle.sfc.specs.answer.Places.{number, place}
-use Rattle.sfc.specs.writing.Writer.{Input, blocks, body, region, preamble, trailer, payload, chunk, fileOf, nameWrong, hasReserved, writeFile, headFor}
+use Rattle.sfc.specs.writing.Writer.{Input, blocks, body, region, preamble, trailer, payload, chunk, fileOf, nameWrong, hasReserved, risesWeakly, tagsFall, writeFile, headFor}
 use Rattle.sfc.specs.demand.Demand2.{Lawful, plain, Demand2}
 use Rattle.sfc.specs.answer.Numbers.{Answered}
 use Rattle.sfc.specs.declared.format.chunk.ChunkChecked.the-variants.{Whole, Refused}
@@ -38,7 +38,7 @@ use Rattle.sfc.proofs.demand.RoundTrip.{chunk-of, offers-answered, roun
 
 any-content : (content : List ℕ) (s m : ℕ) (uuid : List ℕ) → Bytes content → length uuid ≡ 16 → shapeWrong (length content) (wantedBlocks (length content) s) m s ≡ false
     → Lawful (plain content s m uuid)
-unfolding nameWrong hasReserved fieldsIn leftIn risingFrom any flagsBarred distinctBelow extensionWrong
+unfolding nameWrong hasReserved risesWeakly tagsFall fieldsIn leftIn any flagsBarred distinctBelow knownTwice extensionWrong
 any-content content s m uuid b u e =
     let r = right-shape (length content) (wantedBlocks (length content) s) m s e in
     let t : Typed (plain content s m uuid) = record {

@@ -1,8 +1,8 @@
 -- The walk over extension fields (specs/format/FieldTheorems.antt), and a turn of a loop that takes it. Assumes nothing.
 use Prim.Native.Nat.{ℕ, zero, suc, _+_, _-_, _<_, _≤_}
 use mathlib.Core.Path.{_≡_, refl, sym, ap, ap₂, _∙_}
-use mathlib.Core.Bool.{Bool, true, false, cond, not, _||_}
-use mathlib.Core.List.{List, [], _∷_, _++_, map, append-assoc, append-nil}
+use mathlib.Core.Bool.{Bool, true, false, cond, _||_}
+use mathlib.Core.List.{List, [], _∷_, _++_, append-assoc, append-nil}
 use native.Mathlib.Omega.{arith}
 use borrow.Author.Tests.{le-leb, lt-leb, leb-true, ltb-false}
 use lib.Dec.{ltb, leb}
@@ -10,9 +10,9 @@ use lib.ListN.{length, drop, length-drop, take-append-drop}
 use lib.Seq.{drop-drop, getD-drop}
 use Rattle.little.specs.Parts.{part}
 use Rattle.little.specs.Fields.{Bytes, le, bytesOf}
-use Rattle.little.specs.Runs.{any, risingFrom}
+use Rattle.little.specs.Runs.{any}
 use Rattle.little.proofs.Laws.{partLaws, testLaws, littleLaws}
-use Rattle.sfc.specs.format.Extension.{Field, fieldBytes, joinedFields, fieldAt, wholeField, nextField, fieldsIn, leftIn, fieldsOf, leftOf, fieldWrong, extensionWrong}
+use Rattle.sfc.specs.format.Extension.{Field, fieldBytes, joinedFields, fieldAt, wholeField, nextField, fieldsIn, leftIn, fieldsOf, leftOf, fieldWrong, knownTwice, extensionWrong}
 use Rattle.sfc.specs.format.FieldTheorems.{FieldWalk}
 
 -- ---- whether a field is whole
@@ -136,9 +136,8 @@ joined e b = joined-in (length e) e b
 joined-exactly : (blocks flags : ℕ) (e : List ℕ) → Bytes e → extensionWrong blocks flags e ≡ false → joinedFields (fieldsOf e) ≡ e
 unfolding extensionWrong
 joined-exactly blocks flags e b w =
-    let rises : Bool = risingFrom 0 (map (λ (f : Field). f .tag) (fieldsOf e)) in
-    let o = testLaws .or-false (ltb 0 (length (leftOf e)) || not rises) (any (fieldWrong blocks flags) (fieldsOf e)) w in
-    let n : length (leftOf e) ≤ 0 = ltb-false 0 (length (leftOf e)) (testLaws .or-false (ltb 0 (length (leftOf e))) (not rises) (o .0) .0) in
+    let o = testLaws .or-false (ltb 0 (length (leftOf e)) || knownTwice (fieldsOf e)) (any (fieldWrong blocks flags) (fieldsOf e)) w in
+    let n : length (leftOf e) ≤ 0 = ltb-false 0 (length (leftOf e)) (testLaws .or-false (ltb 0 (length (leftOf e))) (knownTwice (fieldsOf e)) (o .0) .0) in
     sym (append-nil (joinedFields (fieldsOf e))) ∙ ap (λ (l : List ℕ). joinedFields (fieldsOf e) ++ l) (sym (empty (leftOf e) n)) ∙ joined e b
   where
     empty : (l : List ℕ) → length l ≤ 0 → l ≡ []
@@ -185,6 +184,9 @@ module _ (e t : List ℕ) (at next : ℕ) (rest : t ≡ drop at e) (says : next 
 
     pub next-inside : (6 ≤ next) × (at + next ≤ length e)
     next-inside = (omega (arith, whole .1), omega (arith, whole .1, whole-long t (whole .0), ap length rest, length-drop at e))
+
+    pub next-within : next ≤ length t
+    next-within = omega (arith, whole .1, whole-long t (whole .0))
 
     after : drop (6 + le t 2 4) t ≡ drop (at + next) e
     after = ap₂ (λ (k : ℕ) (l : List ℕ). drop k l) (sym (whole .1)) rest ∙ drop-drop next at e

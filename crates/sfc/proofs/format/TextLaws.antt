@@ -1,14 +1,17 @@
--- A turn of the loops that compare bytes at a place and measure a name. Assumes nothing.
+-- A turn of the loops that compare bytes at a place and measure a name, and what a name without a zero byte is. Assumes nothing.
 use Prim.Native.Nat.{ℕ, zero, suc, _+_, _-_, _<_, _≤_}
 use mathlib.Core.Path.{_≡_, refl, sym, ap, _∙_}
-use mathlib.Core.Bool.{Bool, true, _&&_}
+use mathlib.Core.Bool.{Bool, true, false, _&&_, _||_}
 use mathlib.Core.List.{List, [], _∷_}
 use native.Mathlib.Omega.{arith}
-use lib.Dec.{eqb}
+use borrow.Author.Tests.{lt-ltb, ne-eqb}
+use lib.Dec.{ltb, eqb}
 use lib.ListN.{length, getD, drop}
 use lib.Seq.{drop-length}
-use Rattle.little.proofs.Laws.{partLaws}
+use Rattle.little.specs.Runs.{any}
+use Rattle.little.proofs.Laws.{testLaws, partLaws}
 use Rattle.sfc.specs.format.Bytes.{standsAt, beforeZero}
+use Rattle.sfc.specs.writing.Writer.{nameWrong}
 
 pub stands-start : (s : List ℕ) (at : ℕ) (wanted : List ℕ) → true ≡ standsAt s (at + length wanted) (drop (length wanted) wanted)
 unfolding standsAt
@@ -44,3 +47,16 @@ unfolding beforeZero
 name-fits [] = omega arith
 name-fits (zero ∷ xs) = omega arith
 name-fits (suc x ∷ xs) = omega (arith, name-fits xs)
+
+-- a zero byte cuts a name short
+zero-cuts : (b : List ℕ) → ltb (length (beforeZero b)) (length b) ≡ any (eqb 0) b
+unfolding beforeZero any
+zero-cuts [] = refl
+zero-cuts (zero ∷ b) = lt-ltb 0 (suc (length b)) (omega arith)
+zero-cuts (suc x ∷ b) =
+    let e : eqb 0 (suc x) ≡ false = ne-eqb 0 (suc x) (λ z. omega arith) in
+    testLaws .ltb-suc (length (beforeZero b)) (length b) ∙ zero-cuts b ∙ sym (ap (λ (t : Bool). t || any (eqb 0) b) e)
+
+pub name-tests : (b : List ℕ) (n : ℕ) → n ≡ length (beforeZero b) → (ltb 255 (length b) || ltb n (length b)) ≡ nameWrong b
+unfolding nameWrong
+name-tests b n e = rw (e, zero-cuts b)

@@ -15,7 +15,7 @@ use Rattle.sfc.specs.format.Limits.{unlawful, aboveHouse, lengthWrong}
 use Rattle.sfc.specs.session.Lent.{shapeWrong}
 use Rattle.sfc.specs.format.Extension.{extensionWrong}
 use Rattle.sfc.specs.format.Header.{mispaired, flagsBarred, distinctBelow, priorityWrong, numberChecks, listChecks, regionChecks}
-use Rattle.sfc.specs.writing.Writer.{Input, size, blocks, erasureFor, body, region, outgrows, outgrown, nameWrong, hasReserved, inputWrong}
+use Rattle.sfc.specs.writing.Writer.{Input, size, blocks, erasureFor, body, region, outgrows, outgrown, nameWrong, hasReserved, tagsFall, inputWrong}
 use Rattle.sfc.specs.declared.format.header.Head.{Head}
 use Rattle.sfc.proofs.writing.RegionBack.{Small, small, not-outgrown, length-region, length-body, fields-after, priority-back, head-back}
 
@@ -60,6 +60,7 @@ pub record RightInput (w : Input) : Type 0 where
   pub name-short : length (w .name) ≤ 255
   pub name-whole : any (eqb 0) (w .name) ≡ false
   pub not-reserved : hasReserved (w .fields) ≡ false
+  pub not-falling : tagsFall (w .fields) ≡ false
   pub body-short : length (body w) ≤ 65536
   pub shape : shapeWrong (size w) (blocks w) (w .m) (w .s) ≡ false
   pub flags-right : flagsBarred (w .flags) ≡ false
@@ -75,15 +76,16 @@ not-and false b e = (refl, e)
 pub right-input : (w : Input) → length (w .uuid) ≡ 16 → inputWrong w ≡ false → RightInput w
 unfolding inputWrong nameWrong lengthWrong shapeWrong
 right-input w u e =
-    let e₅ = testLaws .or-false _ (not (passes (regionChecks (region w)))) e in
-    let e₄ = testLaws .or-false _ (ltb (length (body w)) 331 || ltb 65536 (length (body w))) (e₅ .0) in
+    let e₆ = testLaws .or-false _ (not (passes (regionChecks (region w)))) e in
+    let e₅ = testLaws .or-false _ (ltb (length (body w)) 331 || ltb 65536 (length (body w))) (e₆ .0) in
+    let e₄ = testLaws .or-false _ (tagsFall (w .fields)) (e₅ .0) in
     let e₃ = testLaws .or-false _ (hasReserved (w .fields)) (e₄ .0) in
     let e₂ = testLaws .or-false _ (ltb 255 (length (w .name)) || any (eqb 0) (w .name)) (e₃ .0) in
     let e₁ = testLaws .or-false (eqb (w .s) 0) (outgrown w) (e₂ .0) in
     let nm = testLaws .or-false (ltb 255 (length (w .name))) (any (eqb 0) (w .name)) (e₂ .1) in
     let sm = small w (e₁ .1) in
     let short = ltb-false 255 (length (w .name)) (nm .0) in
-    let ps = not-false (passes (regionChecks (region w))) (e₅ .1) in
+    let ps = not-false (passes (regionChecks (region w))) (e₆ .1) in
     let t = sym (region-tests w u sm short (nm .1)) ∙ ps in
     let t₁ = not-and (unlawful (size w) (blocks w) (w .m) (w .s)) _ t in
     let t₂ = not-and (aboveHouse (blocks w) (w .m) (w .s)) _ (t₁ .1) in
@@ -97,7 +99,8 @@ right-input w u e =
       name-short = short;
       name-whole = nm .1;
       not-reserved = e₃ .1;
-      body-short = ltb-false 65536 (length (body w)) (testLaws .or-false (ltb (length (body w)) 331) (ltb 65536 (length (body w))) (e₄ .1) .1);
+      not-falling = e₄ .1;
+      body-short = ltb-false 65536 (length (body w)) (testLaws .or-false (ltb (length (body w)) 331) (ltb 65536 (length (body w))) (e₅ .1) .1);
       shape = ap₂ _||_ (t₁ .0) (t₂ .0);
       flags-right = t₃ .0;
       priority-few = ltb-false (blocks w) (length (w .priority)) (pr .0);
@@ -150,17 +153,18 @@ none-outgrows (x ∷ xs) h = rw (lt-leb (256 ^ 4) x (h 0)) (none-outgrows xs (λ
 module _ (w : Input) (t : Typed w) (some : w .s ≡ 0 → ⊥) (few : blocks w ≤ 1024) (listed : length (w .priority) ≤ blocks w) where
   abbrev left : Bool
   left =
-      hasReserved (w .fields) || shapeWrong (size w) (blocks w) (w .m) (w .s) || flagsBarred (w .flags) || not (distinctBelow (blocks w) (w .priority))
+      hasReserved (w .fields) || tagsFall (w .fields) || shapeWrong (size w) (blocks w) (w .m) (w .s) || flagsBarred (w .flags) || not (distinctBelow (blocks w) (w .priority))
       || extensionWrong (blocks w + w .m) (w .flags) (w .fields)
 
-  regroup : (h a b f d x : Bool) → (h || false || not (not a && (not b && (not f && (not (false || d) && (not x && true)))))) ≡ (h || (a || b) || f || d || x)
-  regroup true a b f d x = refl
-  regroup false true b f d x = refl
-  regroup false false true f d x = refl
-  regroup false false false true d x = refl
-  regroup false false false false true x = refl
-  regroup false false false false false true = refl
-  regroup false false false false false false = refl
+  regroup : (h g a b f d x : Bool) → (h || g || false || not (not a && (not b && (not f && (not (false || d) && (not x && true)))))) ≡ (h || g || (a || b) || f || d || x)
+  regroup true g a b f d x = refl
+  regroup false true a b f d x = refl
+  regroup false false true b f d x = refl
+  regroup false false false true f d x = refl
+  regroup false false false false true d x = refl
+  regroup false false false false false true x = refl
+  regroup false false false false false false true = refl
+  regroup false false false false false false false = refl
 
   -- with a right name and a right length
   by-tests : nameWrong (w .name) ≡ false → length (body w) ≤ 65536 → inputWrong w ≡ left
@@ -190,7 +194,7 @@ module _ (w : Input) (t : Typed w) (some : w .s ≡ 0 → ⊥) (few : blocks w �
         region-tests w (t .uuid-long) sm short (nm .1),
         le-ltb (blocks w) (length (w .priority)) listed,
       )
-      (regroup (hasReserved (w .fields)) (unlawful (size w) (blocks w) (w .m) (w .s)) (aboveHouse (blocks w) (w .m) (w .s)) (flagsBarred (w .flags))
+      (regroup (hasReserved (w .fields)) (tagsFall (w .fields)) (unlawful (size w) (blocks w) (w .m) (w .s)) (aboveHouse (blocks w) (w .m) (w .s)) (flagsBarred (w .flags))
       (not (distinctBelow (blocks w) (w .priority))) (extensionWrong (blocks w + w .m) (w .flags) (w .fields)))
 
   wrong-name : nameWrong (w .name) ≡ true → inputWrong w ≡ true
@@ -200,21 +204,21 @@ module _ (w : Input) (t : Typed w) (some : w .s ≡ 0 → ⊥) (few : blocks w �
   wrong-length : 65536 < length (body w) → inputWrong w ≡ true
   unfolding inputWrong lengthWrong
   wrong-length h =
-      rw (lt-ltb 65536 (length (body w)) h, or-true (ltb (length (body w)) 331), or-true (eqb (w .s) 0 || outgrown w || nameWrong (w .name) || hasReserved (w .fields)))
+      rw (lt-ltb 65536 (length (body w)) h, or-true (ltb (length (body w)) 331), or-true (eqb (w .s) 0 || outgrown w || nameWrong (w .name) || hasReserved (w .fields) || tagsFall (w .fields)))
 
   -- all the tests that the code is left with, in its order
   pub tests-are : (h : ℕ) → h ≡ 331 + 4 * length (w .priority) + length (w .fields)
-      → (nameWrong (w .name) || ltb 65536 h || hasReserved (w .fields) || shapeWrong (size w) (blocks w) (w .m) (w .s) || flagsBarred (w .flags)
+      → (nameWrong (w .name) || ltb 65536 h || hasReserved (w .fields) || tagsFall (w .fields) || shapeWrong (size w) (blocks w) (w .m) (w .s) || flagsBarred (w .flags)
       || not (distinctBelow (blocks w) (w .priority)) || extensionWrong (blocks w + w .m) (w .flags) (w .fields)) ≡ inputWrong w
   tests-are h eh = by-name (nameWrong (w .name)) refl
     where
-      by-length : nameWrong (w .name) ≡ false → length (body w) ≡ h → (ltb 65536 h || hasReserved (w .fields) || shapeWrong (size w) (blocks w) (w .m) (w .s) || flagsBarred (w .flags)
+      by-length : nameWrong (w .name) ≡ false → length (body w) ≡ h → (ltb 65536 h || hasReserved (w .fields) || tagsFall (w .fields) || shapeWrong (size w) (blocks w) (w .m) (w .s) || flagsBarred (w .flags)
           || not (distinctBelow (blocks w) (w .priority)) || extensionWrong (blocks w + w .m) (w .flags) (w .fields)) ≡ inputWrong w
       by-length nw lb =
           ⊎-elim (λ (g : 65536 < h). rw (lt-ltb 65536 h g) (sym (wrong-length (omega arith))))
           (λ (g : h ≤ 65536). rw (le-ltb 65536 h g) (sym (by-tests nw (omega arith)))) (testLaws .below-or 65536 h)
 
-      by-name : (b : Bool) → nameWrong (w .name) ≡ b → (b || ltb 65536 h || hasReserved (w .fields) || shapeWrong (size w) (blocks w) (w .m) (w .s) || flagsBarred (w .flags)
+      by-name : (b : Bool) → nameWrong (w .name) ≡ b → (b || ltb 65536 h || hasReserved (w .fields) || tagsFall (w .fields) || shapeWrong (size w) (blocks w) (w .m) (w .s) || flagsBarred (w .flags)
           || not (distinctBelow (blocks w) (w .priority)) || extensionWrong (blocks w + w .m) (w .flags) (w .fields)) ≡ inputWrong w
       by-name true e = sym (wrong-name e)
       by-name false e = by-length e (name-length e)
@@ -223,8 +227,8 @@ module _ (w : Input) (t : Typed w) (some : w .s ≡ 0 → ⊥) (few : blocks w �
           name-length nw = length-body w (t .uuid-long) (short-name (w .name) nw) ∙ sym eh
 
   -- the same as the code has it, one equation for each call
-  pub tests-answered : (n h : ℕ) → n ≡ blocks w → h ≡ 331 + 4 * length (w .priority) + length (w .fields) → (nm sp sh fl di fi : Bool)
-      → nm ≡ nameWrong (w .name) → sp ≡ hasReserved (w .fields) → sh ≡ shapeWrong (size w) n (w .m) (w .s) → fl ≡ flagsBarred (w .flags)
+  pub tests-answered : (n h : ℕ) → n ≡ blocks w → h ≡ 331 + 4 * length (w .priority) + length (w .fields) → (nm sp fa sh fl di fi : Bool)
+      → nm ≡ nameWrong (w .name) → sp ≡ hasReserved (w .fields) → fa ≡ tagsFall (w .fields) → sh ≡ shapeWrong (size w) n (w .m) (w .s) → fl ≡ flagsBarred (w .flags)
       → di ≡ distinctBelow n (w .priority) → fi ≡ extensionWrong (n + w .m) (w .flags) (w .fields)
-      → (nm || ltb 65536 h || sp || sh || fl || not di || fi) ≡ inputWrong w
-  tests-answered n h en eh nm sp sh fl di fi e₁ e₂ e₃ e₄ e₅ e₆ = rw (e₁, e₂, e₃, e₄, e₅, e₆, en) (tests-are h eh)
+      → (nm || ltb 65536 h || sp || fa || sh || fl || not di || fi) ≡ inputWrong w
+  tests-answered n h en eh nm sp fa sh fl di fi e₁ e₂ e₃ e₄ e₅ e₆ e₇ = rw (e₁, e₂, e₃, e₄, e₅, e₆, e₇, en) (tests-are h eh)

@@ -1,4 +1,4 @@
--- 60 is what a reader would say of the header so made, but for four causes of its own (specs/writing/SixtyTheorems.antt). Assumes
+-- 60 is what a reader would say of the header so made, but for five causes of its own (specs/writing/SixtyTheorems.antt). Assumes
 -- nothing.
 use Prim.Native.Nat.{ℕ, _≤_}
 use mathlib.Core.Path.{_≡_, refl, sym, ap, _∙_}
@@ -10,7 +10,7 @@ use Rattle.little.proofs.Laws.{testLaws}
 use Rattle.sfc.specs.answer.Numbers.{Check, verdict, passes, numberOf}
 use Rattle.sfc.specs.format.Limits.{lengthWrong}
 use Rattle.sfc.specs.format.Header.{regionOf, headOf, regionChecks, headerChecks, refusedHeader, acceptedHeader, readHeader}
-use Rattle.sfc.specs.writing.Writer.{Input, preamble, region, body, trailer, outgrown, nameWrong, hasReserved, inputWrong}
+use Rattle.sfc.specs.writing.Writer.{Input, preamble, region, body, trailer, outgrown, nameWrong, hasReserved, tagsFall, inputWrong}
 use Rattle.sfc.specs.writing.SixtyTheorems.{ownCause, headerMade, isGood, SixtyTheorems}
 use Rattle.sfc.specs.declared.answer.reason.Reason.{Reason}
 use Rattle.sfc.specs.declared.answer.reason.Checked.the-variants.{Refused}
@@ -36,7 +36,11 @@ module _ (w : Input) (o : ownCause w ≡ false) where
   left = (lengthWrong (length (body w)), 13) ∷ regionChecks (region w)
 
   sized : Small w
-  sized = small w (testLaws .or-false (eqb (w .s) 0) (outgrown w) (testLaws .or-false _ (nameWrong (w .name)) (testLaws .or-false _ (hasReserved (w .fields)) o .0) .0) .1)
+  sized =
+      let e₄ = testLaws .or-false _ (tagsFall (w .fields)) o in
+      let e₃ = testLaws .or-false _ (hasReserved (w .fields)) (e₄ .0) in
+      let e₂ = testLaws .or-false _ (nameWrong (w .name)) (e₃ .0) in
+      small w (testLaws .or-false (eqb (w .s) 0) (outgrown w) (e₂ .0) .1)
 
   is-judged : readHeader (headerMade w) .verdict ≡ verdict left
   unfolding readHeader

@@ -1,13 +1,13 @@
 -- The extension fields of a header region (document 01, "The bytes"). Assumes nothing: these are definitions.
 use Prim.Native.Nat.{ℕ, zero, suc, _+_, _*_}
-use mathlib.Core.Bool.{Bool, cond, not, _&&_, _||_}
-use mathlib.Core.List.{List, [], _∷_, _++_, map}
+use mathlib.Core.Bool.{Bool, false, cond, not, _&&_, _||_}
+use mathlib.Core.List.{List, [], _∷_, _++_}
 use lib.Dec.{ltb, leb, eqb}
 use lib.ListN.{length, drop}
 use Rattle.little.specs.Parts.{part}
 use Rattle.little.specs.Fields.{le, bytesOf}
 use Rattle.sfc.specs.format.Bytes.{bit}
-use Rattle.little.specs.Runs.{any, risingFrom}
+use Rattle.little.specs.Runs.{any}
 
 pub record Field : Type 0 where
   pub tag : ℕ
@@ -61,9 +61,26 @@ ruleBroken blocks flags tag len =
 abbrev pub fieldWrong : ℕ → ℕ → Field → Bool
 fieldWrong blocks flags f = ruleBroken blocks flags (f .tag) (length (f .value))
 
--- 21, of the bytes e after the priority list: the fields do not fill them, or do not rise, or one breaks a rule
+-- the tags that the draft gives a meaning to (document 001, 3.2); each other one is foreign, the reserved ones among them
+unfoldable pub isKnown : ℕ → Bool
+isKnown tag = eqb tag 0x0020 || eqb tag 0x0030 || (leb 0x0100 tag && leb tag 0x0104)
+
+abbrev pub tagWithin : ℕ → ℕ → Field → Bool
+tagWithin low high f = leb low (f .tag) && leb (f .tag) high
+
+-- whether one of these fields has the tag
+abbrev pub hasTag : ℕ → List Field → Bool
+hasTag tag fs = any (λ (f : Field). eqb (f .tag) tag) fs
+
+-- whether two of them, side by side or apart, have the same known tag
+unfoldable pub knownTwice : List Field → Bool
+knownTwice [] = false
+knownTwice (f ∷ fs) = (isKnown (f .tag) && hasTag (f .tag) fs) || knownTwice fs
+
+-- 21, of the bytes e after the priority list: the fields do not fill them, or have a known tag twice, or one breaks a rule
+-- (document 02, [2]: foreign tags may come again, and no order is judged)
 unfoldable pub extensionWrong : ℕ → ℕ → List ℕ → Bool
 extensionWrong blocks flags e =
     ltb 0 (length (leftOf e))
-    || not (risingFrom 0 (map (λ (f : Field). f .tag) (fieldsOf e)))
+    || knownTwice (fieldsOf e)
     || any (fieldWrong blocks flags) (fieldsOf e)

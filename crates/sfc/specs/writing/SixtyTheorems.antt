@@ -1,4 +1,4 @@
--- 60, cause by cause (document 01, "The bytes", the writer's paragraph): beside four causes of its own it is what a reader would say
+-- 60, cause by cause (document 01, "The bytes", the writer's paragraph): beside five causes of its own it is what a reader would say
 -- of the header so made. Statements, proved in proofs/writing/SixtyTheorems.antt.
 use Prim.Native.Nat.{ℕ, _≤_}
 use mathlib.Core.Path.{_≡_}
@@ -7,14 +7,15 @@ use mathlib.Core.List.{List, _++_}
 use lib.Dec.{eqb}
 use Rattle.sfc.specs.answer.Numbers.{numberOf}
 use Rattle.sfc.specs.format.Header.{readHeader}
-use Rattle.sfc.specs.writing.Writer.{Input, preamble, region, trailer, outgrown, nameWrong, hasReserved, inputWrong}
+use Rattle.sfc.specs.writing.Writer.{Input, preamble, region, trailer, outgrown, nameWrong, hasReserved, tagsFall, inputWrong}
 use Rattle.sfc.specs.declared.answer.reason.Reason.{Reason}
 use Rattle.sfc.specs.declared.answer.reason.Checked.{Checked}
 use Rattle.sfc.specs.declared.answer.reason.Checked.the-variants.{Good, Refused}
 
--- a cause of its own: no block length, a number that outgrows its field, a name that would not be read back, a reserved tag
+-- a cause of its own: no block length, a number that outgrows its field, a name that would not be read back, a reserved tag,
+-- tags that fall
 abbrev pub ownCause : Input → Bool
-ownCause w = eqb (w .s) 0 || outgrown w || nameWrong (w .name) || hasReserved (w .fields)
+ownCause w = eqb (w .s) 0 || outgrown w || nameWrong (w .name) || hasReserved (w .fields) || tagsFall (w .fields)
 
 -- the header so made, as a reader is given it
 abbrev pub headerMade : Input → List ℕ

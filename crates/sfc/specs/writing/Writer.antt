@@ -1,8 +1,8 @@
 -- The file that the writer makes, byte for byte, and when it makes none (document 01, "The bytes", 60 and 61). Assumes
 -- nothing: these are definitions.
 use Prim.Native.Nat.{ℕ, _+_, _*_, _^_}
-use mathlib.Core.Bool.{Bool, cond, not, _&&_, _||_}
-use mathlib.Core.List.{List, [], _∷_, _++_}
+use mathlib.Core.Bool.{Bool, true, cond, not, _&&_, _||_}
+use mathlib.Core.List.{List, [], _∷_, _++_, map}
 use lib.Dec.{ltb, leb, eqb}
 use lib.ListN.{length}
 use Rattle.little.specs.Parts.{put}
@@ -13,7 +13,7 @@ use Rattle.sfc.specs.format.Bytes.{padded}
 use Rattle.little.specs.Runs.{any, zeros}
 use Rattle.sfc.specs.answer.Numbers.{Check, checked, passes, Answered}
 use Rattle.sfc.specs.format.Limits.{wantedBlocks, lengthWrong}
-use Rattle.sfc.specs.format.Extension.{Field, fieldsOf}
+use Rattle.sfc.specs.format.Extension.{Field, fieldsOf, tagWithin}
 use Rattle.sfc.specs.format.Header.{magic, trailerMagic, regionChecks}
 use Rattle.sfc.specs.format.Chunk.{chunkMagic, endMarker, typeFor}
 use Rattle.sfc.specs.declared.answer.reason.Reason.{Reason}
@@ -150,16 +150,22 @@ unfoldable pub nameWrong : List ℕ → Bool
 nameWrong name = ltb 255 (length name) || any (eqb 0) name
 
 -- a field with a tag that the draft keeps reserved, among the fields e
-abbrev pub isReserved : Field → Bool
-isReserved f = leb 0x0010 (f .tag) && leb (f .tag) 0x0012
-
 unfoldable pub hasReserved : List ℕ → Bool
-hasReserved e = any isReserved (fieldsOf e)
+hasReserved e = any (tagWithin 0x0010 0x0012) (fieldsOf e)
+
+-- whether numbers never fall, each from the one before it on and the first from `least` on
+unfoldable pub risesWeakly : ℕ → List ℕ → Bool
+risesWeakly least [] = true
+risesWeakly least (x ∷ xs) = leb least x && risesWeakly x xs
+
+-- the tags of the fields e, in the order handed in, fall somewhere (document 02, [2]); equal neighbours are no fall
+unfoldable pub tagsFall : List ℕ → Bool
+tagsFall e = not (risesWeakly 0 (map (λ (f : Field). f .tag) (fieldsOf e)))
 
 -- 60: the last two tests are 13, and 14 to 21, of the region so made
 unfoldable pub inputWrong : Input → Bool
 inputWrong w =
-    eqb (w .s) 0 || outgrown w || nameWrong (w .name) || hasReserved (w .fields)
+    eqb (w .s) 0 || outgrown w || nameWrong (w .name) || hasReserved (w .fields) || tagsFall (w .fields)
     || lengthWrong (length (body w)) || not (passes (regionChecks (region w)))
 
 -- ---- the call

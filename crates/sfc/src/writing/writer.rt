@@ -2,7 +2,8 @@
 use crate::answer::reason::Reason;
 use crate::answer::written::Written;
 use crate::format::extension::are_fields_wrong;
-use crate::format::extension::has_reserved;
+use crate::format::extension::do_tags_fall;
+use crate::format::extension::has_tag_within;
 use crate::format::layout::*;
 use crate::format::limits::are_flags_barred;
 use crate::format::limits::wanted_blocks;
@@ -26,6 +27,11 @@ const MOST_BLOCKS: u64 = MOST_DATA as u64;
 const H_BESIDE_LISTS: usize = LEAST_H as usize;
 
 const LONGEST_H: usize = MOST_H as usize;
+
+// The tags that nobody may use.
+const FIRST_RESERVED: u16 = 0x0010;
+
+const LAST_RESERVED: u16 = 0x0012;
 
 // Bytes of a file before its header's lists, and beside those lists and the chunks.
 const FILE_BEFORE_LISTS: usize = REGION_AT + HEADER_BEFORE_LISTS;
@@ -70,7 +76,8 @@ fn is_input_wrong(
     let h = H_BESIDE_LISTS + 4 * priority.len() + fields.len();
     is_name_wrong(name)
         | (LONGEST_H < h)
-        | has_reserved(fields)
+        | has_tag_within(fields, FIRST_RESERVED, LAST_RESERVED)
+        | do_tags_fall(fields)
         | is_shape_wrong(size, n, m, s)
         | are_flags_barred(flags)
         | !is_distinct_below(priority, n)

@@ -1,5 +1,5 @@
 -- `sfc::format::text::is_name_wrong` meets its contract: a zero byte cuts the name short. Assumes nothing.
-use Rattle.sfc.proofs.format.ReservedLaws.{name-tests}
+use Rattle.sfc.proofs.format.TextLaws.{name-tests}
 use borrow.Author.Needs.{needs}
 use Rattle.sfc.proofs.format.text.is_name_wrong.Statement.{statement}
 use Rattle.sfc.proofs.format.text.is_name_wrong.Tie as tie
