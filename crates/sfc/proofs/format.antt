@@ -4,6 +4,8 @@ pub mod TextLaws
 pub mod ListLaws
 pub mod FieldWalk
 pub mod ExtensionLaws
+pub mod FieldOrder
+pub mod FieldsTaken
 pub mod HeaderLaws
 pub mod ChunkLaws
 pub mod LookupLaws

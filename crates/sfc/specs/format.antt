@@ -1,5 +1,5 @@
 -- The bytes of a container: the words for them (Bytes), limits, extension fields, header, chunk, where a field stands (Lookup),
--- and what the walk over fields finds (FieldTheorems).
+-- what the walk over fields finds (FieldTheorems), and which fields are taken (FieldsTaken).
 pub mod Bytes
 pub mod Limits
 pub mod Extension
@@ -7,3 +7,4 @@ pub mod Header
 pub mod Chunk
 pub mod Lookup
 pub mod FieldTheorems
+pub mod FieldsTaken

@@ -79,7 +79,7 @@ module _ (e : List ℕ) where
   one-more : wholeField e ≡ true → fieldsOf e ≡ fieldAt e ∷ fieldsOf (drop (6 + le e 2 4) e)
   one-more w = fields-open ∙ ap (λ (b : Bool). cond b (fieldAt e ∷ fieldsOf (drop (6 + le e 2 4) e)) []) w
 
-  left-more : wholeField e ≡ true → leftOf e ≡ leftOf (drop (6 + le e 2 4) e)
+  pub left-more : wholeField e ≡ true → leftOf e ≡ leftOf (drop (6 + le e 2 4) e)
   left-more w = left-open ∙ ap (λ (b : Bool). cond b (leftOf (drop (6 + le e 2 4) e)) e) w
 
   no-more : wholeField e ≡ false → (fieldsOf e ≡ []) × (leftOf e ≡ e)

@@ -1,13 +1,16 @@
--- A text that stands at a place. Assumes nothing.
-use Prim.Native.Nat.{ℕ, suc, _+_}
-use mathlib.Core.Path.{_≡_, refl, ap₂}
+-- A text and a number that stand at a place, from what lies there. Assumes nothing.
+use Prim.Native.Nat.{ℕ, suc, _+_, _^_, _<_}
+use mathlib.Core.Path.{_≡_, refl, sym, ap, ap₂, _∙_}
 use mathlib.Core.Bool.{true, _&&_}
 use mathlib.Core.List.{List, [], _∷_, _++_}
+use native.Mathlib.Nat.{mod-eq-of-lt}
 use native.Mathlib.Omega.{arith}
 use borrow.Author.Tests.{eq-eqb}
 use lib.ListN.{getD, drop}
+use lib.Seq.{take-at}
+use Rattle.little.specs.Fields.{le, bytesOf}
 use Rattle.sfc.specs.format.Bytes.{standsAt}
-use Rattle.little.proofs.Laws.{partLaws}
+use Rattle.little.proofs.Laws.{partLaws, littleLaws, byteLaws}
 
 pub stands-there : (c : List ℕ) (k : ℕ) (ys b : List ℕ) → drop k c ≡ ys ++ b → standsAt c k ys ≡ true
 unfolding standsAt
@@ -17,3 +20,11 @@ stands-there c k (y ∷ ys) b e =
     let z : k + 0 ≡ k = omega arith in
     ap₂ _&&_ (eq-eqb (getD c k 0) y (rw z at (partLaws .byte-after c (y ∷ (ys ++ b)) k 0 y e refl)))
     (stands-there c (suc k) ys b (rw o at (partLaws .next c (y ∷ []) (ys ++ b) k 1 e refl)))
+
+pub number-at : (r b : List ℕ) (n width v : ℕ) → drop n r ≡ bytesOf width v ++ b → v < 256 ^ width → le r n width ≡ v
+number-at r b n width v e h =
+    let z : n + 0 ≡ n = omega arith in
+    ap (λ (k : ℕ). le r k width) (sym z) ∙ sym (byteLaws .le-drop width r n 0) ∙ ap (λ (l : List ℕ). le l 0 width) e
+    ∙ sym (byteLaws .le-part width (bytesOf width v ++ b) 0 width 0 (omega arith))
+    ∙ ap (λ (l : List ℕ). le l 0 width) (take-at (bytesOf width v) b width (littleLaws width .long v))
+    ∙ littleLaws width .value-back v ∙ mod-eq-of-lt h

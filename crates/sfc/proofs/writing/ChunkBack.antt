@@ -22,8 +22,7 @@ use Rattle.sfc.specs.declared.answer.reason.Checked.the-variants.{Good, 
 use Rattle.sfc.proofs.answer.CheckLaws.{all-passed, good-then}
 use Rattle.sfc.proofs.writing.LayoutLaws.{length-header}
 use Rattle.sfc.proofs.writing.LengthLaws.{length-chunk}
-use Rattle.sfc.proofs.writing.RegionBack.{number-at}
-use Rattle.sfc.proofs.format.PlaceLaws.{stands-there}
+use Rattle.sfc.proofs.format.PlaceLaws.{stands-there, number-at}
 
 nested : (a b c d e f g p h t r : List ℕ)
     → ((a ++ b ++ c ++ d ++ e ++ f ++ g) ++ p ++ h ++ t) ++ r ≡ a ++ (b ++ (c ++ (d ++ (e ++ (f ++ (g ++ (p ++ (h ++ (t ++ r)))))))))

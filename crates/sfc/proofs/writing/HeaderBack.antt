@@ -21,9 +21,9 @@ use Rattle.sfc.specs.format.Header.{trailerMagic, lengthField, regionOf,
 use Rattle.sfc.specs.writing.Writer.{Input, body, region, preamble, trailerBytes, trailer, headFor}
 use Rattle.sfc.proofs.answer.CheckLaws.{all-passed, passes-good, good-all}
 use Rattle.sfc.proofs.writing.LengthLaws.{length-trailer}
-use Rattle.sfc.proofs.writing.RegionBack.{number-at, length-region, length-body, head-back}
+use Rattle.sfc.proofs.writing.RegionBack.{length-region, length-body, head-back}
 use Rattle.sfc.proofs.writing.InputLaws.{RightInput}
-use Rattle.sfc.proofs.format.PlaceLaws.{stands-there}
+use Rattle.sfc.proofs.format.PlaceLaws.{stands-there, number-at}
 
 -- ---- the trailer
 

@@ -3,12 +3,10 @@ use Prim.Native.Nat.{ℕ, zero, suc, _+_, _-_, _*_, _^_, _<_, _≤_}
 use mathlib.Core.Path.{_≡_, refl, sym, ap, ap₂, _∙_}
 use mathlib.Core.Bool.{false}
 use mathlib.Core.List.{List, [], _∷_, _++_, append-assoc}
-use native.Mathlib.Nat.{mod-eq-of-lt}
 use native.Mathlib.Omega.{arith}
 use borrow.Author.Tests.{leb-false, lt-leb}
 use lib.Dec.{eqb}
 use lib.ListN.{length, drop, length-append, length-replicate}
-use lib.Seq.{take-at}
 use Rattle.little.specs.Parts.{part}
 use Rattle.little.specs.Fields.{le, bytesOf}
 use Rattle.little.proofs.Laws.{littleLaws, byteLaws, testLaws, partLaws}
@@ -18,17 +16,10 @@ use Rattle.sfc.specs.format.Bytes.{padded, beforeZero}
 use Rattle.little.specs.Runs.{any, zeros}
 use Rattle.sfc.specs.format.Header.{headOf, indices}
 use Rattle.sfc.specs.writing.Writer.{Input, size, blocks, erasureFor, compression, identityBytes, shapeBytes, indexBytes, body, region, outgrows, outgrown, headFor}
+use Rattle.sfc.proofs.format.PlaceLaws.{number-at}
 use Rattle.sfc.proofs.writing.LayoutLaws.{length-field, length-padded, length-indices}
 
--- ---- what stands at a place, from what stands after it
-
-pub number-at : (r b : List ℕ) (n width v : ℕ) → drop n r ≡ bytesOf width v ++ b → v < 256 ^ width → le r n width ≡ v
-number-at r b n width v e h =
-    let z : n + 0 ≡ n = omega arith in
-    ap (λ (k : ℕ). le r k width) (sym z) ∙ sym (byteLaws .le-drop width r n 0) ∙ ap (λ (l : List ℕ). le l 0 width) e
-    ∙ sym (byteLaws .le-part width (bytesOf width v ++ b) 0 width 0 (omega arith))
-    ∙ ap (λ (l : List ℕ). le l 0 width) (take-at (bytesOf width v) b width (littleLaws width .long v))
-    ∙ littleLaws width .value-back v ∙ mod-eq-of-lt h
+-- ---- a list of indices
 
 indices-back : (r list b : List ℕ) (at : ℕ) → drop at r ≡ indexBytes list ++ b → any (outgrows 4) list ≡ false → indices r at (length list) ≡ list
 unfolding indices indexBytes any
