@@ -2,6 +2,7 @@
 pub use Rattle.sfc.proofs.answer.Numbered.{numbered}
 pub use Rattle.sfc.proofs.format.FieldWalk.{field-walk}
 pub use Rattle.sfc.proofs.format.FieldInside.{field-lookup}
+pub use Rattle.sfc.proofs.format.FieldsTaken.{fields-taken}
 pub use Rattle.sfc.proofs.session.OfferLaws.{one-offer}
 pub use Rattle.sfc.proofs.session.HistoryLaws.{many-offers}
 pub use Rattle.sfc.proofs.session.CopyTheorems.{copy-theorems}
@@ -13,6 +14,7 @@ pub use Rattle.sfc.proofs.note.RangesExact.{ranges-exact}
 pub use Rattle.sfc.proofs.note.RangesFew.{ranges-few}
 pub use Rattle.sfc.proofs.note.NoteExact.{note-theorems}
 pub use Rattle.sfc.proofs.writing.SixtyTheorems.{sixty-theorems}
+pub use Rattle.sfc.proofs.writing.HeaderFields.{header-fields}
 pub use Rattle.sfc.proofs.demand.Unread.{unread}
 pub use Rattle.sfc.proofs.demand.Demand1.{demand1}
 pub use Rattle.sfc.proofs.demand.Demand2.{demand2}

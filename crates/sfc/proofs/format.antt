@@ -12,3 +12,4 @@ pub mod LookupLaws
 pub mod FieldInside
 pub mod TagLaws
 pub mod PlaceLaws
+pub mod HeaderParts

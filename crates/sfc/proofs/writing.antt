@@ -10,3 +10,4 @@ pub mod FileLaws
 pub mod ChunkBack
 pub mod HeaderBack
 pub mod SixtyTheorems
+pub mod HeaderFields

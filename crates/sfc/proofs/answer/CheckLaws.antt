@@ -84,6 +84,10 @@ front-good [] ds e = refl
 front-good ((true, k) ∷ cs) ds e = refused-not-good (reasonOf k) e
 front-good ((false, k) ∷ cs) ds e = front-good cs ds e
 
+pub front-passed : (cs ds : List Check) → Passed (cs ++ ds) → Passed cs
+front-passed [] ds p = tt
+front-passed (c ∷ cs) ds p = (p .0, front-passed cs ds (p .1))
+
 pub all-passed : (cs : List Check) → Passed cs → verdict cs ≡ Good
 all-passed [] p = refl
 all-passed ((true, k) ∷ cs) p = absurd (true≢false (p .0))

@@ -1,30 +1,27 @@
--- What lies inside the front of a list is the same with anything after it; so each test of a whole chunk and of a header is.
--- Assumes nothing.
-use Prim.Native.Nat.{ℕ, suc, _+_, _-_, _≤_}
+-- What lies inside the front of a list is the same with anything after it; so each test of a whole chunk is, and of a header
+-- (proofs/format/HeaderParts.antt). Assumes nothing.
+use Prim.Native.Nat.{ℕ, _+_, _≤_}
 use mathlib.Core.Path.{_≡_, refl, sym, ap, ap₂, _∙_}
-use mathlib.Core.Bool.{Bool, false, not, _&&_, _||_}
-use mathlib.Core.List.{List, [], _∷_, _++_, append-assoc}
+use mathlib.Core.List.{List, _∷_, _++_}
 use native.Mathlib.Omega.{arith}
 use borrow.Author.Tests.{le-ltb}
-use lib.Dec.{ltb, eqb}
+use lib.Dec.{ltb}
 use lib.ListN.{length, take, length-append, List·getD-append}
-use lib.Seq.{take-append-le, drop-at}
+use lib.Seq.{take-append-le}
 use Rattle.little.specs.Parts.{part}
-use Rattle.little.specs.Fields.{le}
-use Rattle.little.proofs.Laws.{partLaws, byteLaws}
+use Rattle.little.proofs.Laws.{partLaws}
 use Rattle.blake3.specs.Tree.{hash}
 use Rattle.blake3.proofs.Laws.{hashLaws}
-use Rattle.sfc.specs.format.Bytes.{standsAt}
 use Rattle.little.specs.Runs.{zeros}
 use Rattle.sfc.specs.answer.Numbers.{Check, checked, verdict}
-use Rattle.sfc.specs.format.Limits.{lengthWrong}
 use Rattle.sfc.specs.session.Lent.{shapeWrong}
-use Rattle.sfc.specs.format.Header.{magic, lengthField, regionOf, trailerOf, headOf, regionChecks, trailerChecks, headerChecks, refusedHeader, acceptedHeader, readHeader}
 use Rattle.sfc.specs.format.Chunk.{chunkMagic, endMarker, indexOf, typeOf, payloadLength, payloadOf, chunkLength, chunkChecks, checkChunk}
 use Rattle.sfc.specs.answer.Places.{number, place}
 use Rattle.sfc.specs.session.Tallies.{tallyFull}
 use Rattle.sfc.specs.session.Session.{Session, sessionWrong, markChecks, welcomed, verdictOf, settled, after, offered}
 use Rattle.sfc.specs.demand.Unread.{Unread}
+use Rattle.sfc.proofs.format.PlaceLaws.{le-front, stands-front}
+use Rattle.sfc.proofs.format.HeaderParts.{read-seen}
 use Rattle.sfc.specs.declared.format.header.Head.{Head}
 use Rattle.sfc.specs.declared.format.chunk.ChunkChecked.the-variants.{Whole, Refused as Wrong}
 use Rattle.sfc.specs.declared.session.offer.Verdict.{Verdict}
@@ -33,15 +30,6 @@ use Rattle.sfc.specs.declared.session.offer.Verdict.the-variants.{Fresh,
 -- ---- what lies inside c, with any bytes after c
 
 module _ (c rest : List ℕ) where
-  le-front : (at width : ℕ) → at + width ≤ length c → le (c ++ rest) at width ≡ le c at width
-  le-front at width i = byteLaws .le-same width (c ++ rest) c at at (λ k u. List·getD-append c rest 0 (at + k) (omega arith))
-
-  stands-front : (at : ℕ) (ys : List ℕ) → at + length ys ≤ length c → standsAt (c ++ rest) at ys ≡ standsAt c at ys
-  unfolding standsAt
-  stands-front at [] i = refl
-  stands-front at (y ∷ ys) i =
-      ap₂ (λ (b : ℕ) (r : Bool). eqb b y && r) (List·getD-append c rest 0 at (omega arith)) (stands-front (suc at) ys (omega arith))
-
   -- a test that asks for no more bytes than c has
   long-front : (k : ℕ) → k ≤ length c → ltb (length (c ++ rest)) k ≡ ltb (length c) k
   long-front k i = le-ltb (length (c ++ rest)) k (omega (arith, length-append c rest)) ∙ sym (le-ltb (length c) k i)
@@ -106,58 +94,6 @@ module _ (c rest : List ℕ) (whole : chunkLength c ≤ length c) where
       same-offered : offered h x (c ++ rest) ≡ offered h x c
       unfolding offered
       same-offered = rw (same-after, same-verdict)
-
--- ---- preamble and region a, trailer t
-
-module _ (a t : List ℕ) (a-long : length a ≡ lengthField a + 12) (t-long : length t ≡ 64) where
-  -- the checks, with a and t alone
-  abbrev seen : List Check
-  seen =
-      (false, 10)
-      ∷ (not (standsAt a 0 magic), 11)
-      ∷ (not (eqb (le a 4 2) 0) || not (eqb (le a 6 2) 1), 12)
-      ∷ (lengthWrong (lengthField a), 13)
-      ∷ (false, 10)
-      ∷ (regionChecks (regionOf a) ++ trailerChecks (regionOf a) t)
-
-  module _ (mid : List ℕ) where
-    abbrev given : List ℕ
-    given = a ++ mid ++ t
-
-    a-first : given ≡ a ++ (mid ++ t)
-    a-first = append-assoc a mid t
-
-    given-long : length given ≡ lengthField a + 76 + length mid
-    given-long = length-append (a ++ mid) t ∙ omega (arith, length-append a mid)
-
-    same-field : lengthField given ≡ lengthField a
-    same-field = ap (λ (l : List ℕ). lengthField l) a-first ∙ le-front a (mid ++ t) 8 4 (omega arith)
-
-    same-region : regionOf given ≡ regionOf a
-    same-region =
-        ap₂ (λ (l : List ℕ) (n : ℕ). part l 8 (n + 4)) a-first same-field ∙ partLaws .part-append-left a (mid ++ t) 8 (lengthField a + 4) (omega arith)
-
-    same-trailer : trailerOf given ≡ t
-    same-trailer = drop-at (a ++ mid) t (length given - 64) (omega (arith, given-long, length-append a mid))
-
-    only-seen : headerChecks given ≡ seen
-    only-seen =
-        rw (
-          same-region,
-          same-trailer,
-          same-field,
-          le-ltb (length given) 12 (omega (arith, given-long)),
-          le-ltb (length given) (lengthField a + 76) (omega (arith, given-long)),
-          a-first,
-          stands-front a (mid ++ t) 0 magic (omega arith),
-          le-front a (mid ++ t) 4 2 (omega arith),
-          le-front a (mid ++ t) 6 2 (omega arith),
-        )
-
-    read-seen : readHeader given ≡ checked seen refusedHeader (acceptedHeader (headOf (regionOf a)))
-    unfolding readHeader
-    read-seen =
-        ap₂ (λ (cs : List Check) (r : List ℕ). checked cs refusedHeader (acceptedHeader (headOf r))) only-seen same-region
 
 pub unread : Unread
 unread =

@@ -19,6 +19,17 @@ use Rattle.sfc.proofs.format.FieldWalk.{is-whole, field-walk, left-more
 
 -- ---- a field that is stored
 
+pub length-stored : (f : Field) (rest : List ℕ) → length (fieldBytes f ++ rest) ≡ 6 + length (f .value) + length rest
+length-stored f rest =
+    length-append (fieldBytes f) rest
+    ∙ omega (
+      arith,
+      length-append (bytesOf 2 (f .tag) ++ bytesOf 4 (length (f .value))) (f .value),
+      length-append (bytesOf 2 (f .tag)) (bytesOf 4 (length (f .value))),
+      littleLaws 2 .long (f .tag),
+      littleLaws 4 .long (length (f .value)),
+    )
+
 module _ (f : Field) (rest : List ℕ) (s : Storable f) where
   abbrev stored : List ℕ
   stored = fieldBytes f ++ rest
@@ -46,14 +57,8 @@ module _ (f : Field) (rest : List ℕ) (s : Storable f) where
   field-back : fieldAt stored ≡ f
   field-back = λ i. record { tag = tag-back i; value = partLaws .piece stored (f .value) rest 6 (le stored 2 4) from-value (sym length-back) i }
 
-  length-stored : length stored ≡ 6 + length (f .value) + length rest
-  length-stored =
-      length-append (fieldBytes f) rest
-      ∙ omega (arith, length-append (bytesOf 2 (f .tag) ++ bytesOf 4 (length (f .value))) (f .value),
-      length-append (bytesOf 2 (f .tag)) (bytesOf 4 (length (f .value))), littleLaws 2 .long (f .tag), littleLaws 4 .long (length (f .value)))
-
   whole-back : wholeField stored ≡ true
-  whole-back = is-whole stored (omega (arith, length-stored)) (omega (arith, length-stored, length-back))
+  whole-back = is-whole stored (omega (arith, length-stored f rest)) (omega (arith, length-stored f rest, length-back))
 
   pub found-first : fieldsOf stored ≡ f ∷ fieldsOf rest
   found-first = field-walk .one-more stored whole-back ∙ ap₂ (λ (x : Field) (l : List ℕ). x ∷ fieldsOf l) field-back rest-back

@@ -43,20 +43,21 @@ module _ (digest : List ℕ) (time : ℕ) (l : length digest ≡ 32) where
   from-zeros : drop 48 (trailerBytes digest time) ≡ zeros 16 ++ []
   from-zeros = partLaws .next (trailerBytes digest time) (bytesOf 8 time) (zeros 16) 40 8 from-time (littleLaws 8 .long time)
 
+-- the trailer of a region passes with it
+pub trailer-passed : (r : List ℕ) (time : ℕ) → Passed (trailerChecks r (trailerBytes (hash r) time))
+trailer-passed r time =
+    let t : List ℕ = trailerBytes (hash r) time in
+    let l = hashLaws .length-hash r in (
+      ap₂ (λ (a b : Bool). not a || not b)
+          (stands-there t 0 trailerMagic _ (from-start (hash r) time l))
+          (stands-there t 48 (zeros 16) [] (from-zeros (hash r) time l)),
+      (ap not (stands-there t 8 (hash r) _ (from-digest (hash r) time l)), tt),
+    )
+
 module _ (w : Input) where
   pub trailer-long : length (trailer w) ≡ 64
   unfolding trailer
   trailer-long = length-trailer (hash (region w)) (w .time) (hashLaws .length-hash (region w))
-
-  trailer-passed : Passed (trailerChecks (region w) (trailer w))
-  unfolding trailer
-  trailer-passed =
-      let l = hashLaws .length-hash (region w) in (
-        ap₂ (λ (a b : Bool). not a || not b)
-            (stands-there (trailer w) 0 trailerMagic _ (from-start (hash (region w)) (w .time) l))
-            (stands-there (trailer w) 48 (zeros 16) [] (from-zeros (hash (region w)) (w .time) l)),
-        (ap not (stands-there (trailer w) 8 (hash (region w)) _ (from-digest (hash (region w)) (w .time) l)), tt),
-      )
 
 -- ---- checks that pass are as if they were not there
 
@@ -64,7 +65,7 @@ start-skipped : (a b c d t : Bool) (cs : List Check) → a ≡ false → b ≡ f
     → verdict ((a, 10) ∷ (b, 11) ∷ (c, 12) ∷ (t, 13) ∷ (d, 10) ∷ cs) ≡ verdict ((t, 13) ∷ cs)
 start-skipped a b c d t cs ea eb ec ed = λ i. verdict ((ea i, 10) ∷ (eb i, 11) ∷ (ec i, 12) ∷ (t, 13) ∷ (ed i, 10) ∷ cs)
 
-last-passed : (cs ds : List Check) → Passed ds → verdict (cs ++ ds) ≡ verdict cs
+pub last-passed : (cs ds : List Check) → Passed ds → verdict (cs ++ ds) ≡ verdict cs
 last-passed [] ds p = all-passed ds p
 last-passed ((true, k) ∷ cs) ds p = refl
 last-passed ((false, k) ∷ cs) ds p = last-passed cs ds p
@@ -92,7 +93,7 @@ module _ (w : Input) (fits : length (body w) < 256 ^ 4) (between : List ℕ) whe
       number-at given (body w ++ (between ++ trailer w)) 8 4 (length (body w))
       (from-region ∙ append-assoc (bytesOf 4 (length (body w))) (body w) (between ++ trailer w)) fits
 
-  region-back : regionOf given ≡ region w
+  pub region-back : regionOf given ≡ region w
   region-back = partLaws .piece given (region w) (between ++ trailer w) 8 (lengthField given + 4) from-region (length-region w ∙ omega (arith, field-back))
 
   length-front : length (preamble ++ region w ++ between) ≡ 12 + length (body w) + length between
@@ -107,13 +108,13 @@ module _ (w : Input) (fits : length (body w) < 256 ^ 4) (between : List ℕ) whe
 
   -- so a reader judges H and the region, and finds nothing else wrong
   pub judged : verdict (headerChecks given) ≡ verdict ((lengthWrong (length (body w)), 13) ∷ regionChecks (region w))
-  unfolding le bytesOf standsAt
+  unfolding le bytesOf standsAt trailer
   judged =
       let short : ltb (length given) 12 ≡ false = le-ltb (length given) 12 (omega (arith, length-given)) in
       let cut : ltb (length given) (lengthField given + 76) ≡ false = le-ltb (length given) (lengthField given + 76) (omega (arith, length-given, field-back)) in
       start-skipped _ _ _ _ (lengthWrong (lengthField given)) (regionChecks (regionOf given) ++ trailerChecks (regionOf given) (trailerOf given)) short refl refl cut
       ∙ (λ i. verdict ((lengthWrong (field-back i), 13) ∷ (regionChecks (region-back i) ++ trailerChecks (region-back i) (trailer-back i))))
-      ∙ last-passed ((lengthWrong (length (body w)), 13) ∷ regionChecks (region w)) (trailerChecks (region w) (trailer w)) (trailer-passed w)
+      ∙ last-passed ((lengthWrong (length (body w)), 13) ∷ regionChecks (region w)) (trailerChecks (region w) (trailer w)) (trailer-passed (region w) (w .time))
 
 module _ (w : Input) (u : length (w .uuid) ≡ 16) (r : RightInput w) (between : List ℕ) where
   body-right : lengthWrong (length (body w)) ≡ false
