@@ -1,6 +1,6 @@
 -- Fields that are stored are found again, and neither their order nor one more with a foreign tag changes what 21 says of them
 -- (specs/format/FieldsTaken.antt). Assumes nothing.
-use Prim.Native.Nat.{ℕ, _+_, _<_, _≤_, _^_}
+use Prim.Native.Nat.{ℕ, _+_, _≤_}
 use mathlib.Core.Path.{_≡_, refl, sym, ap, ap₂, _∙_}
 use mathlib.Core.Bool.{Bool, true, false, _&&_, _||_}
 use mathlib.Core.List.{List, [], _∷_, _++_, append-assoc, List·Permᴰ, List·Permᴰ·nil, List·Permᴰ·cons, List·Permᴰ·swap, List·Permᴰ·trans, Permᴰ·middle}
@@ -8,7 +8,6 @@ use native.Mathlib.Omega.{arith}
 use borrow.Author.Tests.{eqb-true, eqb-false, ne-eqb, le-ltb}
 use lib.Dec.{ltb, leb, eqb}
 use lib.ListN.{length, drop, length-append}
-use Rattle.little.specs.Parts.{part}
 use Rattle.little.specs.Fields.{le, bytesOf}
 use Rattle.little.specs.Runs.{any}
 use Rattle.little.proofs.Laws.{partLaws, littleLaws, testLaws}

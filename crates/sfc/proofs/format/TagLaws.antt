@@ -11,7 +11,7 @@ use lib.ListN.{length, drop, drop-of-length-le}
 use Rattle.little.specs.Fields.{le}
 use Rattle.little.specs.Runs.{any}
 use Rattle.little.proofs.Laws.{testLaws}
-use Rattle.sfc.specs.format.Extension.{Field, fieldAt, nextField, fieldsIn, fieldsOf, tagWithin, hasTag}
+use Rattle.sfc.specs.format.Extension.{Field, fieldAt, nextField, fieldsIn, fieldsOf, isKnown, tagWithin, hasTag}
 use Rattle.sfc.specs.writing.Writer.{risesWeakly, tagsFall}
 use Rattle.sfc.proofs.format.FieldWalk.{none-there, next-inside, field-there}
 
@@ -58,10 +58,18 @@ within-one tag x =
     (λ (h : tag ≤ x). rw (le-leb tag x h) (⊎-elim (λ (k : tag < x). rw (lt-leb x tag k, ne-eqb x tag (λ e. omega arith)))
     (λ (k : x ≤ tag). rw (le-leb x tag k, eq-eqb x tag (omega arith))) (testLaws .below-or tag x))) (testLaws .below-or x tag)
 
-pub has-one : (tag : ℕ) (fs : List Field) → any (tagWithin tag tag) fs ≡ hasTag tag fs
+has-one : (tag : ℕ) (fs : List Field) → any (tagWithin tag tag) fs ≡ hasTag tag fs
 unfolding any
 has-one tag [] = refl
 has-one tag (f ∷ fs) = ap₂ _||_ (within-one tag (f .tag)) (has-one tag fs)
+
+-- so a known tag is looked for, and of a foreign one nothing is asked
+module _ (tag : ℕ) (fs : List Field) (known : Bool) (says : known ≡ isKnown tag) where
+  pub known-again : (found : Bool) → known ≡ true → found ≡ any (tagWithin tag tag) fs → found ≡ (isKnown tag && hasTag tag fs)
+  known-again found k e = rw (← says, k) (e ∙ has-one tag fs)
+
+  pub foreign-again : known ≡ false → false ≡ (isKnown tag && hasTag tag fs)
+  foreign-again k = rw (← says, k)
 
 -- ---- a tag that falls
 

@@ -1,5 +1,5 @@
 -- A header whose extension is another, and the tags of a written file (specs/writing/HeaderFields.antt). Assumes nothing.
-use Prim.Native.Nat.{ℕ, zero, suc, _+_, _-_, _*_, _^_, _≤_, _<_}
+use Prim.Native.Nat.{ℕ, zero, suc, _+_, _-_, _*_, _≤_, _<_}
 use mathlib.Core.Path.{_≡_, refl, sym, ap, ap₂, _∙_}
 use mathlib.Core.Logic.{_≢_}
 use mathlib.Core.Bool.{Bool, true, false, cond, not, _&&_, _||_}
@@ -7,7 +7,7 @@ use mathlib.Core.List.{List, [], _∷_, _++_, append-assoc, append-nil, map, Lis
 use native.Mathlib.Omega.{arith}
 use borrow.Author.Tests.{ltb-false, le-ltb, leb-true, le-leb, not-false}
 use lib.Dec.{ltb, leb, eqb}
-use lib.ListN.{length, getD, take, drop, length-append, length-take, length-drop, take-append-drop, List·getD-append}
+use lib.ListN.{length, getD, take, drop, length-append, length-drop, take-append-drop, List·getD-append}
 use lib.Seq.{getD-drop}
 use Rattle.little.specs.Parts.{part}
 use Rattle.little.specs.Fields.{Bytes, le, bytesOf}
@@ -18,27 +18,25 @@ use Rattle.blake3.proofs.Laws.{hashLaws}
 use Rattle.cauchy.specs.Code.{joined}
 use Rattle.sfc.specs.format.Bytes.{standsAt}
 use Rattle.sfc.specs.answer.Numbers.{Check, verdict, Passed}
-use Rattle.sfc.specs.format.Limits.{unlawful, aboveHouse, lengthWrong}
-use Rattle.sfc.specs.format.Extension.{Field, fieldBytes, joinedFields, fieldAt, wholeField, fieldsIn, fieldsOf, fieldWrong, isKnown, extensionWrong}
+use Rattle.sfc.specs.format.Limits.{lengthWrong}
+use Rattle.sfc.specs.format.Extension.{Field, fieldBytes, joinedFields, fieldAt, wholeField, fieldsIn, fieldsOf, isKnown, extensionWrong}
 use Rattle.sfc.specs.format.FieldsTaken.{fieldNo, Known, Storable, AllStorable}
-use Rattle.sfc.specs.format.Header.{magic, lengthField, regionOf, trailerOf, headOf, mispaired, flagsBarred, indices, distinctBelow, priorityWrong, numberChecks, listChecks, regionChecks, trailerChecks, headerChecks, refusedHeader, acceptedHeader, readHeader}
+use Rattle.sfc.specs.format.Header.{magic, lengthField, regionOf, trailerOf, headOf, indices, distinctBelow, priorityWrong, numberChecks, listChecks, regionChecks, trailerChecks, headerChecks, refusedHeader, acceptedHeader, readHeader}
 use Rattle.sfc.specs.format.Lookup.{extensionOf}
 use Rattle.sfc.specs.writing.Writer.{Input, blocks, region as made-region, chunk, trailerBytes, fileOf, risesWeakly, tagsFall, inputWrong}
 use Rattle.sfc.specs.writing.HeaderFields.{counted, regionWith, headerWith, Accepted, HeaderFields}
-use Rattle.sfc.specs.declared.answer.reason.Reason.{Reason}
-use Rattle.sfc.specs.declared.answer.reason.Checked.{Checked}
 use Rattle.sfc.specs.declared.answer.reason.Checked.the-variants.{Good, Refused}
 use Rattle.sfc.specs.declared.format.header.Head.{Head}
 use Rattle.sfc.specs.declared.format.header.HeaderRead.{HeaderRead}
 use Rattle.sfc.proofs.answer.CheckLaws.{passed, front-passed, all-passed, good-then, tells}
 use Rattle.sfc.proofs.format.PlaceLaws.{number-at, le-front, stands-front}
-use Rattle.sfc.proofs.format.HeaderParts.{seen, only-seen}
+use Rattle.sfc.proofs.format.HeaderParts.{only-seen}
 use Rattle.sfc.proofs.format.FieldWalk.{field-walk}
 use Rattle.sfc.proofs.format.FieldOrder.{length-stored, order-free, foreign-added}
 use Rattle.sfc.proofs.format.FieldsTaken.{fields-taken}
 use Rattle.sfc.proofs.writing.LengthLaws.{length-trailer}
 use Rattle.sfc.proofs.writing.RegionBack.{fields-after, head-back}
-use Rattle.sfc.proofs.writing.InputLaws.{RightInput, right-input}
+use Rattle.sfc.proofs.writing.InputLaws.{right-input}
 use Rattle.sfc.proofs.writing.HeaderBack.{trailer-passed, last-passed, region-back}
 
 -- ---- a region with another extension

@@ -1,6 +1,6 @@
 -- The header region that the writer makes says what the caller gave, and which tests 13 to 21 come to on it. Assumes nothing.
 use Prim.Native.Nat.{ℕ, zero, suc, _+_, _-_, _*_, _^_, _<_, _≤_}
-use mathlib.Core.Path.{_≡_, refl, sym, ap, ap₂, _∙_}
+use mathlib.Core.Path.{_≡_, refl, ap, ap₂, _∙_}
 use mathlib.Core.Bool.{false}
 use mathlib.Core.List.{List, [], _∷_, _++_, append-assoc}
 use native.Mathlib.Omega.{arith}
@@ -8,8 +8,8 @@ use borrow.Author.Tests.{leb-false, lt-leb}
 use lib.Dec.{eqb}
 use lib.ListN.{length, drop, length-append, length-replicate}
 use Rattle.little.specs.Parts.{part}
-use Rattle.little.specs.Fields.{le, bytesOf}
-use Rattle.little.proofs.Laws.{littleLaws, byteLaws, testLaws, partLaws}
+use Rattle.little.specs.Fields.{bytesOf}
+use Rattle.little.proofs.Laws.{littleLaws, testLaws, partLaws}
 use Rattle.blake3.specs.Tree.{hash}
 use Rattle.blake3.proofs.Laws.{hashLaws}
 use Rattle.sfc.specs.format.Bytes.{padded, beforeZero}

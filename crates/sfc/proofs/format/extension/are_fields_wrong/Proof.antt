@@ -35,13 +35,13 @@ sub-comes-again : tie.Need-sub-comes-again Inv-loop μ-loop
 sub-comes-again c =
     let a = c .before .before .before .before .before .before .before .before .args in
     let l = c .before .before .before .before .before .before .loop in
-    next-within (a .e .now) _ (l .at) _ (partLaws .part-rest (a .e .now) (l .at)) (c .before .before .before .next-field .ensures) (c .before .before .if1 .left)
+    omega (arith, next-within (a .e .now) _ (l .at) _ (partLaws .part-rest (a .e .now) (l .at)) (c .before .before .before .next-field .ensures) (c .before .before .if1 .left))
 
 part-comes-again-start : tie.Need-part-comes-again-start Inv-loop μ-loop
 part-comes-again-start c =
     let a = c .before .before .before .before .before .before .before .before .args in
     let l = c .before .before .before .before .before .before .loop in
-    next-within (a .e .now) _ (l .at) _ (partLaws .part-rest (a .e .now) (l .at)) (c .before .before .before .next-field .ensures) (c .before .before .if1 .left)
+    omega (arith, next-within (a .e .now) _ (l .at) _ (partLaws .part-rest (a .e .now) (l .at)) (c .before .before .before .next-field .ensures) (c .before .before .if1 .left))
 
 part-comes-again-end : tie.Need-part-comes-again-end Inv-loop μ-loop
 part-comes-again-end c =

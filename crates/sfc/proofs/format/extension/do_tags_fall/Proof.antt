@@ -29,7 +29,7 @@ returns-2 c =
     let a = c .before .before .before .before .before .before .before .before .args in
     let l = c .before .before .before .before .before .before .loop in
     fall-here (a .e .now) (l .least) (l .at) _ _ (l .inv) (partLaws .part-rest (a .e .now) (l .at)) (c .before .before .before .next-field .ensures) (c .before .before .if1 .left)
-    (rw (c .before .read16 .ensures) at (c .if2 .taken))
+    (omega (arith, c .before .read16 .ensures, c .if2 .taken))
 
 add-at : tie.Need-add-at Inv-loop μ-loop
 add-at c =
@@ -49,7 +49,7 @@ loop-again c =
     let l = c .before .before .before .before .before .before .loop in
     rw (c .before .read16 .ensures)
     (no-fall-here (a .e .now) (l .least) (l .at) _ _ (l .inv) (partLaws .part-rest (a .e .now) (l .at)) (c .before .before .before .next-field .ensures) (c .before .before .if1 .left)
-    (rw (c .before .read16 .ensures) at (c .if2 .left)))
+    (omega (arith, c .before .read16 .ensures, c .if2 .left)))
 
 returns-3 : tie.Need-returns-3 Inv-loop μ-loop
 returns-3 c =
