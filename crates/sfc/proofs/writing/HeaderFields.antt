@@ -1,5 +1,5 @@
 -- A header whose extension is another, and the tags of a written file (specs/writing/HeaderFields.antt). Assumes nothing.
-use Prim.Native.Nat.{ℕ, zero, suc, _+_, _-_, _*_, _≤_, _<_}
+use Prim.Native.Nat.{ℕ, zero, suc, _+_, _-_, _*_, _^_, _≤_, _<_}
 use mathlib.Core.Path.{_≡_, refl, sym, ap, ap₂, _∙_}
 use mathlib.Core.Logic.{_≢_}
 use mathlib.Core.Bool.{Bool, true, false, cond, not, _&&_, _||_}
@@ -24,7 +24,7 @@ use Rattle.sfc.specs.format.FieldsTaken.{fieldNo, Known, Storable, AllSt
 use Rattle.sfc.specs.format.Header.{magic, lengthField, regionOf, trailerOf, headOf, indices, distinctBelow, priorityWrong, numberChecks, listChecks, regionChecks, trailerChecks, headerChecks, refusedHeader, acceptedHeader, readHeader}
 use Rattle.sfc.specs.format.Lookup.{extensionOf}
 use Rattle.sfc.specs.writing.Writer.{Input, blocks, region as made-region, chunk, trailerBytes, fileOf, risesWeakly, tagsFall, inputWrong}
-use Rattle.sfc.specs.writing.HeaderFields.{counted, regionWith, headerWith, Accepted, HeaderFields}
+use Rattle.sfc.specs.writing.HeaderFields.{lengthWith, regionWith, headerWith, Accepted, HeaderFields}
 use Rattle.sfc.specs.declared.answer.reason.Checked.the-variants.{Good, Refused}
 use Rattle.sfc.specs.declared.format.header.Head.{Head}
 use Rattle.sfc.specs.declared.format.header.HeaderRead.{HeaderRead}
@@ -54,18 +54,18 @@ module _ (r e : List ℕ) (long : 335 + 4 * le r 333 2 ≤ length r) where
   kept-long : length kept ≡ upto
   kept-long = partLaws .length-part r 4 upto (omega arith)
 
-  from-field : made ≡ bytesOf 4 (counted r e) ++ (kept ++ e)
+  from-field : made ≡ bytesOf 4 (lengthWith r e) ++ (kept ++ e)
   unfolding regionWith
-  from-field = append-assoc (bytesOf 4 (counted r e)) kept e
+  from-field = append-assoc (bytesOf 4 (lengthWith r e)) kept e
 
   from-kept : drop 4 made ≡ kept ++ e
-  from-kept = partLaws .next made (bytesOf 4 (counted r e)) (kept ++ e) 0 4 from-field (littleLaws 4 .long (counted r e))
+  from-kept = partLaws .next made (bytesOf 4 (lengthWith r e)) (kept ++ e) 0 4 from-field (littleLaws 4 .long (lengthWith r e))
 
   from-extension : drop (4 + upto) made ≡ e
   from-extension = partLaws .next made kept e 4 upto from-kept kept-long
 
-  made-long : length made ≡ 4 + counted r e
-  made-long = ap length from-field ∙ length-append (bytesOf 4 (counted r e)) (kept ++ e) ∙ omega (arith, littleLaws 4 .long (counted r e), length-append kept e, kept-long)
+  made-long : length made ≡ 4 + lengthWith r e
+  made-long = ap length from-field ∙ length-append (bytesOf 4 (lengthWith r e)) (kept ++ e) ∙ omega (arith, littleLaws 4 .long (lengthWith r e), length-append kept e, kept-long)
 
   -- after H and before the extension each byte is as it was
   same-byte : (i : ℕ) → 4 ≤ i → i < 4 + upto → getD made i 0 ≡ getD r i 0
@@ -149,9 +149,9 @@ module _ (b : List ℕ) (good : readHeader b .verdict ≡ Good) where
       let o = testLaws .or-false _ (not (distinctBelow (le region 317 4) (indices region 335 (le region 333 2)))) priority-right in
       ltb-false (length region) (335 + 4 * le region 333 2) (testLaws .or-false (ltb (le region 317 4) (le region 333 2)) _ (o .0) .1)
 
-  counted-most : lengthField b ≤ 65536
+  length-most : lengthField b ≤ 65536
   unfolding lengthWrong
-  counted-most = ltb-false 65536 (lengthField b) (testLaws .or-false (ltb (lengthField b) 331) (ltb 65536 (lengthField b)) (tests .1 .1 .1 .0) .1)
+  length-most = ltb-false 65536 (lengthField b) (testLaws .or-false (ltb (lengthField b) 331) (ltb 65536 (lengthField b)) (tests .1 .1 .1 .0) .1)
 
   whole : lengthField b + 76 ≤ length b
   whole = ltb-false (length b) (lengthField b + 76) (tests .1 .1 .1 .1 .0)
@@ -162,7 +162,7 @@ module _ (b : List ℕ) (good : readHeader b .verdict ≡ Good) where
   front-long : length (take 8 b) ≡ 8
   front-long = partLaws .length-part b 0 8 (omega (arith, whole))
 
-  module _ (e between : List ℕ) (time : ℕ) (fits : counted region e ≤ 65536) where
+  module _ (e between : List ℕ) (time : ℕ) (fits : lengthWith region e ≤ 65536) where
     abbrev front : List ℕ
     front = take 8 b ++ regionWith region e
 
@@ -172,9 +172,9 @@ module _ (b : List ℕ) (good : readHeader b .verdict ≡ Good) where
     front-region : drop 8 front ≡ regionWith region e
     front-region = partLaws .next front (take 8 b) (regionWith region e) 0 8 refl front-long
 
-    front-field : lengthField front ≡ counted region e
+    front-field : lengthField front ≡ lengthWith region e
     front-field =
-        number-at front (part region 4 (331 + 4 * le region 333 2) ++ e) 8 4 (counted region e) (front-region ∙ from-field region e lists-inside) (omega arith)
+        number-at front (part region 4 (331 + 4 * le region 333 2) ++ e) 8 4 (lengthWith region e) (front-region ∙ from-field region e lists-inside) (omega arith)
 
     region-is : regionOf front ≡ regionWith region e
     region-is =
@@ -262,7 +262,7 @@ module _ (b : List ℕ) (fs : List Field) (x : Accepted b fs) where
   fields-right : extensionWrong allBlocks flags (joinedFields fs) ≡ false
   fields-right = ap (λ (e : List ℕ). extensionWrong allBlocks flags e) its-fields ∙ extension-right b (x .good)
 
-  fits : counted (regionOf b) (joinedFields fs) ≤ 65536
+  fits : lengthWith (regionOf b) (joinedFields fs) ≤ 65536
   fits =
       omega (
         arith,
@@ -270,11 +270,11 @@ module _ (b : List ℕ) (fs : List Field) (x : Accepted b fs) where
         length-drop (335 + 4 * le (regionOf b) 333 2) (regionOf b),
         lists-inside b (x .good),
         region-long b (x .good),
-        counted-most b (x .good),
+        length-most b (x .good),
       )
 
   -- fields with the same verdict are accepted
-  accepted-as : (gs : List Field) (between : List ℕ) (time : ℕ) → counted (regionOf b) (joinedFields gs) ≤ 65536
+  accepted-as : (gs : List Field) (between : List ℕ) (time : ℕ) → lengthWith (regionOf b) (joinedFields gs) ≤ 65536
       → extensionWrong allBlocks flags (joinedFields gs) ≡ extensionWrong allBlocks flags (joinedFields fs)
       → readHeader (headerWith b (joinedFields gs) between time) .verdict ≡ Good
   accepted-as gs between time h e =
@@ -284,14 +284,14 @@ module _ (b : List ℕ) (fs : List Field) (x : Accepted b fs) where
   any-order gs between time d = accepted-as gs between time (omega (arith, same-long d, fits)) (sym (order-free allBlocks flags fs gs d storable))
 
 module _ (b between : List ℕ) (time : ℕ) (fs gs : List Field) where
-  foreign-more : (f : Field) → Accepted b (fs ++ gs) → f .tag < 65536 → isKnown (f .tag) ≡ false → length (f .value) ≤ 16384
-      → counted (regionOf b) (joinedFields (fs ++ (f ∷ gs))) ≤ 65536 → readHeader (headerWith b (joinedFields (fs ++ (f ∷ gs))) between time) .verdict ≡ Good
+  foreign-more : (f : Field) → Accepted b (fs ++ gs) → f .tag < 256 ^ 2 → isKnown (f .tag) ≡ false → length (f .value) ≤ 16384
+      → lengthWith (regionOf b) (joinedFields (fs ++ (f ∷ gs))) ≤ 65536 → readHeader (headerWith b (joinedFields (fs ++ (f ∷ gs))) between time) .verdict ≡ Good
   foreign-more f x t k l h =
       accepted-as b (fs ++ gs) x (fs ++ (f ∷ gs)) between time h
       (foreign-added (allBlocks b (fs ++ gs) x) (flags b (fs ++ gs) x) fs gs f (storable b (fs ++ gs) x) (t, omega arith) k l)
 
   repeat-free : (i : ℕ) → Accepted b (fs ++ gs) → i < length (fs ++ gs) → isKnown (fieldNo (fs ++ gs) i .tag) ≡ false
-      → counted (regionOf b) (joinedFields (fs ++ (fieldNo (fs ++ gs) i ∷ gs))) ≤ 65536
+      → lengthWith (regionOf b) (joinedFields (fs ++ (fieldNo (fs ++ gs) i ∷ gs))) ≤ 65536
       → readHeader (headerWith b (joinedFields (fs ++ (fieldNo (fs ++ gs) i ∷ gs))) between time) .verdict ≡ Good
   repeat-free i x h k l =
       let t = fields-taken .taken-exactly _ _ (extensionOf (regionOf b)) .0 (extension-right b (x .good)) in

@@ -65,6 +65,7 @@ fieldWrong blocks flags f = ruleBroken blocks flags (f .tag) (length (f .value))
 unfoldable pub isKnown : ℕ → Bool
 isKnown tag = eqb tag 0x0020 || eqb tag 0x0030 || (leb 0x0100 tag && leb tag 0x0104)
 
+-- whether a field's tag is from low to high
 abbrev pub tagWithin : ℕ → ℕ → Field → Bool
 tagWithin low high f = leb low (f .tag) && leb (f .tag) high
 

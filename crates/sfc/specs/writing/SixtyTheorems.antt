@@ -1,5 +1,5 @@
--- 60, cause by cause (document 01, "The bytes", the writer's paragraph): beside five causes of its own it is what a reader would say
--- of the header so made. Statements, proved in proofs/writing/SixtyTheorems.antt.
+-- 60, cause by cause (document 01, "The bytes", the writer's paragraph; document 02, [2]): beside five causes of its own it is what
+-- a reader would say of the header so made. Statements, proved in proofs/writing/SixtyTheorems.antt.
 use Prim.Native.Nat.{ℕ, _≤_}
 use mathlib.Core.Path.{_≡_}
 use mathlib.Core.Bool.{Bool, true, false, not, _||_}
