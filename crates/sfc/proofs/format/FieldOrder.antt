@@ -50,7 +50,7 @@ module _ (f : Field) (rest : List ℕ) (s : Storable f) where
   length-back : le stored 2 4 ≡ length (f .value)
   length-back = number-at stored (f .value ++ rest) 2 4 (length (f .value)) from-length (s .1)
 
-  pub rest-back : drop (6 + le stored 2 4) stored ≡ rest
+  rest-back : drop (6 + le stored 2 4) stored ≡ rest
   rest-back = partLaws .next stored (f .value) rest 6 (le stored 2 4) from-value (sym length-back)
 
   field-back : fieldAt stored ≡ f
@@ -59,10 +59,10 @@ module _ (f : Field) (rest : List ℕ) (s : Storable f) where
   whole-back : wholeField stored ≡ true
   whole-back = is-whole stored (omega (arith, length-stored f rest)) (omega (arith, length-stored f rest, length-back))
 
-  pub found-first : fieldsOf stored ≡ f ∷ fieldsOf rest
+  found-first : fieldsOf stored ≡ f ∷ fieldsOf rest
   found-first = field-walk .one-more stored whole-back ∙ ap₂ (λ (x : Field) (l : List ℕ). x ∷ fieldsOf l) field-back rest-back
 
-  pub left-first : leftOf stored ≡ leftOf rest
+  left-first : leftOf stored ≡ leftOf rest
   left-first = left-more stored whole-back ∙ ap (λ (l : List ℕ). leftOf l) rest-back
 
 pub found-again : (fs : List Field) → AllStorable fs → (fieldsOf (joinedFields fs) ≡ fs) × (leftOf (joinedFields fs) ≡ [])
@@ -89,7 +89,7 @@ or-swap true false c = refl
 or-swap false true c = refl
 or-swap false false c = refl
 
-pub any-order : (p : Field → Bool) {fs gs : List Field} → List·Permᴰ fs gs → any p fs ≡ any p gs
+any-order : (p : Field → Bool) {fs gs : List Field} → List·Permᴰ fs gs → any p fs ≡ any p gs
 unfolding any
 any-order p List·Permᴰ·nil = refl
 any-order p (List·Permᴰ·cons {a = a} {b = b} e d) = ap₂ (λ (x : Field) (t : Bool). p x || t) e (any-order p d)
@@ -109,7 +109,7 @@ twice-swap f g fs = go (eqb (g .tag) (f .tag)) refl
         rw (e, ne-eqb (f .tag) (g .tag) (λ s. eqb-false (g .tag) (f .tag) e (sym s)))
         (or-swap (isKnown (f .tag) && hasTag (f .tag) fs) (isKnown (g .tag) && hasTag (g .tag) fs) (knownTwice fs))
 
-pub twice-order : {fs gs : List Field} → List·Permᴰ fs gs → knownTwice fs ≡ knownTwice gs
+twice-order : {fs gs : List Field} → List·Permᴰ fs gs → knownTwice fs ≡ knownTwice gs
 unfolding knownTwice
 twice-order List·Permᴰ·nil = refl
 twice-order (List·Permᴰ·cons {a = a} {l₁ = fs} {l₂ = gs} e d) =
@@ -131,7 +131,7 @@ module _ (blocks flags : ℕ) where
 
 -- ---- one field more
 
-pub storable-more : (fs gs : List Field) (f : Field) → AllStorable (fs ++ gs) → Storable f → AllStorable (fs ++ (f ∷ gs))
+storable-more : (fs gs : List Field) (f : Field) → AllStorable (fs ++ gs) → Storable f → AllStorable (fs ++ (f ∷ gs))
 storable-more [] gs f s t = (t, s)
 storable-more (x ∷ fs) gs f s t = (s .0, storable-more fs gs f (s .1) t)
 

@@ -113,7 +113,7 @@ none-back p (f ∷ fs) h = or-both (h 0 (omega arith)) (none-back p fs (λ i k. 
 abbrev Once : List Field → Type 0
 Once fs = (i j : ℕ) → i < j → j < length fs → Known (fieldNo fs i .tag) → fieldNo fs i .tag ≢ fieldNo fs j .tag
 
-pub once-there : (fs : List Field) → knownTwice fs ≡ false → Once fs
+once-there : (fs : List Field) → knownTwice fs ≡ false → Once fs
 unfolding knownTwice
 once-there [] w i j h k n e = absurd (omega arith)
 once-there (f ∷ fs) w i zero h k n e = absurd (omega arith)

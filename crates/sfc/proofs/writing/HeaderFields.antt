@@ -196,7 +196,7 @@ module _ (b : List ℕ) (good : readHeader b .verdict ≡ Good) where
     unfolding lengthWrong
     length-right = ap₂ _||_ (le-ltb (lengthField front) 331 (omega (arith, front-field))) (le-ltb 65536 (lengthField front) (omega (arith, front-field)))
 
-    pub by-extension : readHeader (headerWith b e between time) .verdict
+    by-extension : readHeader (headerWith b e between time) .verdict
         ≡ verdict ((extensionWrong (le region 317 4 + le region 321 4) (le region 331 2) e, 21) ∷ [])
     by-extension =
         let made : List ℕ = regionWith region e in
