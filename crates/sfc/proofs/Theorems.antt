@@ -7,6 +7,7 @@ pub use Rattle.sfc.proofs.session.OfferLaws.{one-offer}
 pub use Rattle.sfc.proofs.session.HistoryLaws.{many-offers}
 pub use Rattle.sfc.proofs.session.CopyTheorems.{copy-theorems}
 pub use Rattle.sfc.proofs.session.OrderTheorems.{order-theorems}
+pub use Rattle.sfc.proofs.session.SpotTheorems.{place-table, first-wrongs}
 pub use Rattle.sfc.proofs.session.EndLaws.{end-state}
 pub use Rattle.sfc.proofs.session.CountLaws.{tallies-count}
 pub use Rattle.sfc.proofs.note.MissingExact.{missing-exact}

@@ -12,4 +12,5 @@ pub mod LookupLaws
 pub mod FieldInside
 pub mod TagLaws
 pub mod PlaceLaws
+pub mod SpotLaws
 pub mod HeaderParts

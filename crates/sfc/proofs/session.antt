@@ -1,4 +1,5 @@
--- Laws of marks, tallies and offers; histories; what a session of an accepted header is (RightLaws); copies and order.
+-- Laws of marks, tallies and offers; histories; what a session of an accepted header is (RightLaws); copies, order, and where a chunk
+-- broke.
 pub mod MarkLaws
 pub mod TallyLaws
 pub mod SessionLaws
@@ -13,3 +14,5 @@ pub mod DifferentLaws
 pub mod TallyMarks
 pub mod CopyTheorems
 pub mod OrderTheorems
+pub mod BreakLaws
+pub mod SpotTheorems

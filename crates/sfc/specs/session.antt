@@ -1,6 +1,6 @@
 -- A session: tallies, marks, every 71 (Lent) and what is known once it lets something through (Right), what an offer makes of them
 -- (Session), histories of offers, and what is proved of them (SessionTheorems; of copies, CopyTheorems; of their order,
--- OrderTheorems).
+-- OrderTheorems; of where a chunk broke, SpotTheorems).
 pub mod Tallies
 pub mod Marks
 pub mod Lent
@@ -10,3 +10,4 @@ pub mod History
 pub mod SessionTheorems
 pub mod CopyTheorems
 pub mod OrderTheorems
+pub mod SpotTheorems

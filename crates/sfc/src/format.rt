@@ -6,4 +6,5 @@ pub mod layout;
 pub mod limits;
 pub mod lookup;
 pub mod priority;
+pub mod spot;
 pub mod text;

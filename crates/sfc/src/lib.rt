@@ -9,9 +9,10 @@ mod writing;
 // A refusal's reason, and its number.
 pub use answer::reason::Reason;
 pub use answer::reason::number_of;
-// What a list of checks came to; how many bytes were written; which block, and which byte.
+// What a list of checks came to; how many bytes were written; which block, which byte, and where an input broke.
 pub use answer::places::BlockNumber;
 pub use answer::places::BytePlace;
+pub use answer::places::Spot;
 pub use answer::reason::Checked;
 pub use answer::written::Written;
 // A header's fields, from preamble, region and trailer.
@@ -21,7 +22,7 @@ pub use format::header::read_header;
 // Where the value of one of its extension fields stands.
 pub use format::lookup::FieldFound;
 pub use format::lookup::find_field;
-// Whether bytes are a whole chunk of a file, and of which index.
+// Whether bytes are a whole chunk of a file, and of which index, or where they broke.
 pub use format::chunk::ChunkChecked;
 pub use format::chunk::check_chunk;
 // How long the chunk at the front of some bytes is.

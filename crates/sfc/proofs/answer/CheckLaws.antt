@@ -1,11 +1,15 @@
 -- Lists of checks, one after the other: what a refusal and a good verdict of the first part say of the whole, and what an
 -- answer tells of them. Assumes nothing.
-use Prim.Native.Nat.{ℕ}
-use mathlib.Core.Path.{_≡_, refl, sym, ap, _∙_}
-use mathlib.Core.Bool.{Bool, true, false, cond, true≢false, false≢true}
+use Prim.Native.Nat.{ℕ, zero, suc}
+use mathlib.Core.Path.{_≡_, refl, sym, ap, _∙_, subst}
+use mathlib.Core.Bool.{Bool, true, false, cond, not, _&&_, true≢false, false≢true}
 use mathlib.Core.List.{List, [], _∷_, _++_}
 use native.Mathlib.Omega.{arith}
-use Rattle.sfc.specs.answer.Numbers.{Check, checked, verdict, thenCheck, passes, Passed, reasonOf}
+use borrow.Author.Tests.{eqb-false, not-true}
+use lib.Dec.{eqb}
+use lib.ListN.{getD, take, drop}
+use Rattle.little.proofs.Laws.{testLaws}
+use Rattle.sfc.specs.answer.Numbers.{Check, checked, verdict, thenCheck, passes, Passed, numberOf, reasonOf}
 use Rattle.sfc.specs.declared.answer.reason.Reason.{Reason}
 use Rattle.sfc.specs.declared.answer.reason.Checked.{Checked}
 use Rattle.sfc.specs.declared.answer.reason.Checked.the-variants.{Good, Refused}
@@ -109,6 +113,42 @@ pub wrong-fails : (cs : List Check) (r : Reason) → verdict cs ≡ Refused r �
 wrong-fails [] r e = refused-not-good r (sym e)
 wrong-fails ((true, k) ∷ cs) r e = refl
 wrong-fails ((false, k) ∷ cs) r e = wrong-fails cs r e
+
+-- ---- which check refused, told by its number
+
+-- a fact of each number, where its own test holds and those before it do not
+abbrev pub EachHeld : (ℕ → Type 0) → List Check → Type 0
+EachHeld P [] = Unit {0}
+EachHeld P (c ∷ cs) = (c .0 ≡ true → P (numberOf (reasonOf (c .1)))) × (c .0 ≡ false → EachHeld P cs)
+
+pub number-held : (P : ℕ → Type 0) (cs : List Check) (r : Reason) → EachHeld P cs → verdict cs ≡ Refused r → P (numberOf r)
+number-held P [] r o e = refused-not-good r (sym e)
+number-held P ((true, k) ∷ cs) r o e = subst (λ (q : Reason). P (numberOf q)) (refused-one (reasonOf k) r e) (o .0 refl)
+number-held P ((false, k) ∷ cs) r o e = number-held P cs r (o .1 refl) e
+
+-- whether no number of a list is k: a computed test, since the numbers of a list are literals
+abbrev pub without : ℕ → List Check → Bool
+without k [] = true
+without k (c ∷ cs) = not (eqb (numberOf (reasonOf (c .1))) k) && without k cs
+
+other-number : (k j : ℕ) → numberOf (reasonOf k) ≡ k → not (eqb (numberOf (reasonOf j)) k) ≡ true → reasonOf j ≡ reasonOf k → ⊥
+other-number k j t n e = eqb-false (numberOf (reasonOf j)) k (not-true (eqb (numberOf (reasonOf j)) k) n) (ap numberOf e ∙ t)
+
+not-by : (k : ℕ) (cs : List Check) → numberOf (reasonOf k) ≡ k → without k cs ≡ true → verdict cs ≡ Refused (reasonOf k) → ⊥
+not-by k [] t w e = refused-not-good (reasonOf k) (sym e)
+not-by k ((true, j) ∷ cs) t w e = other-number k j t (testLaws .and-both _ (without k cs) w .0) (refused-one (reasonOf j) (reasonOf k) e)
+not-by k ((false, j) ∷ cs) t w e = not-by k cs t (testLaws .and-both (not (eqb (numberOf (reasonOf j)) k)) (without k cs) w .1) e
+
+-- a number that stands once in a list, as the i-th: its test holds, and none before it
+pub blamed : (k i : ℕ) (cs : List Check) → numberOf (reasonOf k) ≡ k → without k (take i cs) ≡ true → without k (drop (suc i) cs) ≡ true
+    → verdict cs ≡ Refused (reasonOf k) → Passed (take i cs) × (getD cs i (false, 0) .0 ≡ true)
+blamed k i [] t w v e = refused-not-good (reasonOf k) (sym e)
+blamed k zero ((true, j) ∷ cs) t w v e = (tt, refl)
+blamed k zero ((false, j) ∷ cs) t w v e = absurd (not-by k cs t v e)
+blamed k (suc i) ((true, j) ∷ cs) t w v e = absurd (other-number k j t (testLaws .and-both _ (without k (take i cs)) w .0) (refused-one (reasonOf j) (reasonOf k) e))
+blamed k (suc i) ((false, j) ∷ cs) t w v e =
+    let b = blamed k i cs t (testLaws .and-both (not (eqb (numberOf (reasonOf j)) k)) (without k (take i cs)) w .1) v e in
+    ((refl, b .0), b .1)
 
 -- ---- what an answer tells of the checks that it came from, whatever form it has
 

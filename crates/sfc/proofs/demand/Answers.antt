@@ -2,7 +2,7 @@
 use Prim.Native.Nat.{ℕ, _*_}
 use Prim.Native.Char.{code}
 use Prim.Native.String.{String, [] as ends, _∷_ as _then_}
-use mathlib.Core.Path.{_≡_, refl, ap, _∙_}
+use mathlib.Core.Path.{_≡_, refl, sym, ap, ap₂, _∙_}
 use mathlib.Core.Bool.{Bool, true, false, cond}
 use mathlib.Core.List.{List, [], _∷_}
 use borrow.Author.Tests.{eqb-true}
@@ -12,14 +12,15 @@ use Rattle.little.specs.Said.{Said, refused, says}
 use Rattle.little.proofs.Laws.{saidLaws, testLaws}
 use Rattle.sfc.specs.answer.Numbers.{Check, checked, numberOf, reasonOf}
 use Rattle.sfc.specs.answer.Places.{number, place}
-use Rattle.sfc.specs.answer.Said.{byNumber, tabled, checkedSaid, headerSaid, noteSaid, fieldSaid, chunkSaid, measuredSaid, verdictSaid, countedSaid, handedOutSaid, prefixSaid, blockSaid, listedSaid, writtenSaid}
+use Rattle.sfc.specs.answer.Said.{byNumber, tabled, checkedSaid, headerSaid, noteSaid, fieldSaid, chunkSaid, chunkSpot, spotSaid, measuredSaid, verdictSaid, countedSaid, handedOutSaid, prefixSaid, blockSaid, listedSaid, writtenSaid}
 use Rattle.sfc.specs.format.Header.{headerChecks, regionOf, headOf, refusedHeader, acceptedHeader, readHeader}
 use Rattle.sfc.specs.format.Extension.{fieldsOf}
 use Rattle.sfc.specs.format.Lookup.{foundAmong, extensionOf, extensionPlace, findField}
-use Rattle.sfc.specs.format.Chunk.{indexOf, chunkLength, measureChecks, measureChunk, aloneChecks, checkChunk}
+use Rattle.sfc.specs.format.Chunk.{indexOf, chunkLength, measureChecks, measureChunk, aloneChecks}
+use Rattle.sfc.specs.format.Spot.{spotFor, refusedChunk, checkChunk}
 use Rattle.sfc.specs.session.Marks.{heldCount, barredCount}
 use Rattle.sfc.specs.session.Lent.{Lent, countChecks, countMarks}
-use Rattle.sfc.specs.session.Session.{Session, mark, offerChecks, welcomed, verdictOf, offered}
+use Rattle.sfc.specs.session.Session.{Session, mark, offerChecks, welcomed, verdictOf, spotOf, offered}
 use Rattle.sfc.specs.give.HandOut.{handOutChecks, handOut}
 use Rattle.sfc.specs.give.Block.{blockChecks, blockRequest}
 use Rattle.sfc.specs.give.Prefix.{prefixBlocks, prefixOf, prefixChecks, prefixGiven}
@@ -32,6 +33,7 @@ use Rattle.sfc.specs.declared.format.header.Head.{Head}
 use Rattle.sfc.specs.declared.answer.reason.Reason.{Reason}
 use Rattle.sfc.specs.declared.answer.reason.Checked.{Checked}
 use Rattle.sfc.specs.declared.answer.written.Written.{Written}
+use Rattle.sfc.specs.declared.answer.places.Spot.{Spot}
 use Rattle.sfc.specs.declared.format.lookup.FieldFound.{FieldFound}
 use Rattle.sfc.specs.declared.format.chunk.ChunkChecked.{ChunkChecked}
 use Rattle.sfc.specs.declared.format.chunk.ChunkMeasured.{ChunkMeasured}
@@ -65,7 +67,19 @@ field b tag =
 
 chunk : (h : Head) (c : List ℕ) → chunkSaid (checkChunk h c) ≡ byNumber (aloneChecks h c) (says "whole" (indexOf c ∷ 48 ∷ []))
 unfolding checkChunk
-chunk h c = by-number chunkSaid ChunkChecked.Refused (ChunkChecked.Whole (number (indexOf c)) (place 48)) (λ r. refl) (aloneChecks h c) refl
+chunk h c = by-number chunkSaid (refusedChunk h c) (ChunkChecked.Whole (number (indexOf c)) (place 48)) (λ r. refl) (aloneChecks h c) refl
+
+chunk-place : (h : Head) (c : List ℕ) → chunkSpot (checkChunk h c) ≡ spotSaid (spotFor h c) (chunkSaid (checkChunk h c))
+unfolding checkChunk
+chunk-place h c = go (aloneChecks h c)
+  where
+    answer : List Check → ChunkChecked
+    answer cs = checked cs (refusedChunk h c) (ChunkChecked.Whole (number (indexOf c)) (place 48))
+
+    go : (cs : List Check) → chunkSpot (answer cs) ≡ spotSaid (spotFor h c) (chunkSaid (answer cs))
+    go [] = refl
+    go ((true, k) ∷ cs) = refl
+    go ((false, k) ∷ cs) = go cs
 
 measure : (h : Head) (b : List ℕ) → measuredSaid (measureChunk h b) ≡ byNumber (measureChecks h b) (says "length" (chunkLength b ∷ []))
 unfolding measureChunk
@@ -122,6 +136,15 @@ reading : (b out : List ℕ) → noteSaid (readNote b out .answer) ≡ byNumber 
 unfolding readNote
 reading b out = by-number noteSaid refusedNote (goodNote b) (λ r. refl) (readChecks b out) refl
 
+offer-place : (h : Head) (x : Session) (c : List ℕ) → offered h x c .spot ≡ spotSaid (spotFor h c) (verdictSaid (offered h x c .verdict))
+unfolding offered spotOf
+offer-place h x c = go (verdictOf h x c)
+  where
+    go : (v : Verdict) → spotOf h c v ≡ spotSaid (spotFor h c) (verdictSaid v)
+    go (Verdict.Fresh i p) = refl
+    go (Verdict.Repeat i p) = refl
+    go (Verdict.Refused r) = refl
+
 writing : (w : Input) (out : List ℕ) → writtenSaid (writeFile w out .answer) ≡ byNumber (writerChecks w out) (says "bytes" (length (fileOf w) ∷ []))
 unfolding writeFile
 writing w out = by-number writtenSaid Written.Refused (Written.Bytes (length (fileOf w))) (λ r. refl) (writerChecks w out) refl
@@ -131,8 +154,10 @@ answers = record {
   header = header;
   field = field;
   chunk = chunk;
+  chunk-place = chunk-place;
   measure = measure;
   offer = offer;
+  offer-place = offer-place;
   count = count;
   hand-out = hand-out;
   block = block;
@@ -166,13 +191,14 @@ checked-back : (v : Checked) → checkedBack (checkedSaid v) ≡ v
 checked-back Checked.Good = refl
 checked-back (Checked.Refused r) = ap Checked.Refused (reason-back r)
 
-abbrev chunkBack : Said → ChunkChecked
-chunkBack (refused k) = ChunkChecked.Refused (reasonOf k)
-chunkBack (says word vs) = ChunkChecked.Whole (number (one vs)) (place (two vs))
+-- with the place that is said beside
+abbrev chunkBack : Said → Spot → ChunkChecked
+chunkBack (refused k) s = ChunkChecked.Refused (reasonOf k) s
+chunkBack (says word vs) s = ChunkChecked.Whole (number (one vs)) (place (two vs))
 
-chunk-back : (v : ChunkChecked) → chunkBack (chunkSaid v) ≡ v
+chunk-back : (v : ChunkChecked) → chunkBack (chunkSaid v) (chunkSpot v) ≡ v
 chunk-back (ChunkChecked.Whole i p) = refl
-chunk-back (ChunkChecked.Refused r) = ap ChunkChecked.Refused (reason-back r)
+chunk-back (ChunkChecked.Refused r s) = ap (λ (q : Reason). ChunkChecked.Refused q s) (reason-back r)
 
 abbrev measuredBack : Said → ChunkMeasured
 measuredBack (refused k) = ChunkMeasured.Refused (reasonOf k)
@@ -256,7 +282,7 @@ pub said-apart : SaidApart
 said-apart = record {
   checked = saidLaws .told-apart checkedSaid checkedBack checked-back;
   field = saidLaws .told-apart fieldSaid fieldBack field-back;
-  chunk = saidLaws .told-apart chunkSaid chunkBack chunk-back;
+  chunk = λ v w e f. sym (chunk-back v) ∙ ap₂ chunkBack e f ∙ chunk-back w;
   measured = saidLaws .told-apart measuredSaid measuredBack measured-back;
   verdict = saidLaws .told-apart verdictSaid verdictBack verdict-back;
   counted = saidLaws .told-apart countedSaid countedBack counted-back;

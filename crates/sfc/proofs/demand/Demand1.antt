@@ -13,12 +13,13 @@ use Rattle.little.specs.Runs.{any, zeros, among}
 use Rattle.sfc.specs.answer.Numbers.{Check, checked, verdict, passes, numberOf}
 use Rattle.sfc.specs.format.Header.{lengthField, headerChecks, regionOf, headOf, refusedHeader, acceptedHeader, readHeader}
 use Rattle.sfc.specs.format.Extension.{Field, fieldsOf}
-use Rattle.sfc.specs.format.Chunk.{indexOf, aloneChecks, checkChunk, chunkLength, measureChecks, measureChunk}
+use Rattle.sfc.specs.format.Chunk.{indexOf, aloneChecks, chunkLength, measureChecks, measureChunk}
+use Rattle.sfc.specs.format.Spot.{spotFor, checkChunk}
 use Rattle.sfc.specs.format.Lookup.{foundAmong, extensionOf, extensionPlace, findField}
 use Rattle.sfc.specs.answer.Places.{number, place}
 use Rattle.sfc.specs.session.Marks.{isHeld, heldCount, barredCount}
 use Rattle.sfc.specs.session.Tallies.{counted, countedRefusal}
-use Rattle.sfc.specs.session.Session.{Session, mark, offerChecks, welcomed, verdictOf, withBlock, settled, after}
+use Rattle.sfc.specs.session.Session.{Session, offerChecks, verdictOf, withBlock, settled, after, spotOf, offered}
 use Rattle.sfc.specs.session.Lent.{lentWrong, Lent, rebuildWrong, countChecks, countMarks}
 use Rattle.sfc.specs.give.HandOut.{lentAfter, contentOf, handOutLent, contentChecks, handOutChecks, handOut}
 use Rattle.sfc.specs.give.Block.{blockGiven, blockLent, blockChecks, blockRequest}
@@ -35,12 +36,11 @@ use Rattle.sfc.specs.declared.answer.places.BytePlace.{BytePlace}
 use Rattle.sfc.specs.declared.answer.reason.Reason.{Reason}
 use Rattle.sfc.specs.declared.answer.reason.Checked.{Checked}
 use Rattle.sfc.specs.declared.answer.reason.Checked.the-variants.{Good, Refused}
-use Rattle.sfc.specs.declared.format.chunk.ChunkChecked.{ChunkChecked}
-use Rattle.sfc.specs.declared.format.chunk.ChunkChecked.the-variants.{Whole, Refused as NoChunk}
+use Rattle.sfc.specs.declared.answer.places.Spot.{Spot}
+use Rattle.sfc.specs.declared.format.chunk.ChunkChecked.the-variants.{Refused as NoChunk}
 use Rattle.sfc.specs.declared.format.lookup.FieldFound.{FieldFound}
 use Rattle.sfc.specs.declared.format.lookup.FieldFound.the-variants.{At, Nothing, Refused as NotShown}
-use Rattle.sfc.specs.declared.session.offer.Verdict.{Verdict}
-use Rattle.sfc.specs.declared.session.offer.Verdict.the-variants.{Fresh, Repeat, Refused as NotTaken}
+use Rattle.sfc.specs.declared.session.offer.Verdict.the-variants.{Refused as NotTaken}
 use Rattle.sfc.specs.declared.give.hand_out.HandedOut.{HandedOut}
 use Rattle.sfc.specs.declared.give.hand_out.HandedOut.the-variants.{Complete, Refused as NotHandedOut}
 use Rattle.sfc.specs.declared.give.prefix.PrefixGiven.{PrefixGiven}
@@ -54,6 +54,7 @@ use Rattle.sfc.specs.declared.answer.written.Written.{Written}
 use Rattle.sfc.specs.declared.answer.written.Written.the-variants.{Bytes as Took, Refused as NotWritten}
 use Rattle.sfc.proofs.answer.CheckLaws.{passed, good-all, refused-all, tells}
 use Rattle.sfc.proofs.session.SessionLaws.{right-lent, after-by, number-in}
+use Rattle.sfc.proofs.session.BreakLaws.{check-refused, offer-refused, offer-spot}
 use Rattle.sfc.proofs.session.HistoryLaws.{after-tallies}
 use Rattle.sfc.proofs.session.OfferLaws.{one-offer}
 use Rattle.sfc.proofs.note.NoteLaws.{length-bounds}
@@ -68,19 +69,10 @@ use Rattle.sfc.specs.declared.session.marks.MarksCounted.the-variants.{C
 
 -- ---- the verdict in each kind of answer
 
-abbrev chunkSeen : ChunkChecked → Checked
-chunkSeen (Whole i p) = Good
-chunkSeen (NoChunk r) = Refused r
-
 abbrev fieldSeen : FieldFound → Checked
 fieldSeen (At p n) = Good
 fieldSeen Nothing = Good
 fieldSeen (NotShown r) = Refused r
-
-abbrev offerSeen : Verdict → Checked
-offerSeen (Fresh i p) = Good
-offerSeen (Repeat i p) = Good
-offerSeen (NotTaken r) = Refused r
 
 abbrev pub handOutSeen : HandedOut → Checked
 handOutSeen (Complete p) = Good
@@ -112,12 +104,15 @@ header-refused b r e =
     ((lit≤ tt, lit≤ tt), ((lit≤ tt, lit≤ tt), ((lit≤ tt, lit≤ tt), ((lit≤ tt, lit≤ tt), ((lit≤ tt, lit≤ tt), ((lit≤ tt, lit≤ tt), ((lit≤ tt, lit≤ tt), ((lit≤ tt, lit≤ tt), ((lit≤ tt, lit≤ tt), ((lit≤ tt, lit≤ tt), ((lit≤ tt, lit≤ tt), ((lit≤ tt, lit≤ tt), ((lit≤ tt, lit≤ tt), ((lit≤ tt, lit≤ tt), ((lit≤ tt, lit≤ tt), tt))))))))))))))) t in
     (n .0, n .1, refused-all refusedHeader (headerChecks b) (acceptedHeader (headOf (regionOf b))) r t)
 
-chunk-refused : (h : Head) (c : List ℕ) (r : Reason) → checkChunk h c ≡ NoChunk r → OneOf r (71 ∷ 30 ∷ 31 ∷ 32 ∷ 33 ∷ 34 ∷ 35 ∷ 36 ∷ 37 ∷ 38 ∷ 39 ∷ 40 ∷ [])
-unfolding checkChunk any
-chunk-refused h c r e =
-    number-in (λ (k : ℕ). among k (71 ∷ 30 ∷ 31 ∷ 32 ∷ 33 ∷ 34 ∷ 35 ∷ 36 ∷ 37 ∷ 38 ∷ 39 ∷ 40 ∷ []) ≡ true) (aloneChecks h c) r
-    (refl, (refl, (refl, (refl, (refl, (refl, (refl, (refl, (refl, (refl, (refl, (refl, (refl, tt)))))))))))))
-    (tells chunkSeen NoChunk (Whole (number (indexOf c)) (place 48)) (λ q. refl) refl (aloneChecks h c) (Refused r) (ap chunkSeen e))
+chunk-refused : (h : Head) (c : List ℕ) (r : Reason) (p : Spot) → checkChunk h c ≡ NoChunk r p
+    → OneOf r (71 ∷ 30 ∷ 31 ∷ 32 ∷ 33 ∷ 34 ∷ 35 ∷ 36 ∷ 37 ∷ 38 ∷ 39 ∷ 40 ∷ []) × (p ≡ spotFor h c (numberOf r))
+unfolding any
+chunk-refused h c r p e =
+    let w = check-refused h c r p e in (
+      number-in (λ (k : ℕ). among k (71 ∷ 30 ∷ 31 ∷ 32 ∷ 33 ∷ 34 ∷ 35 ∷ 36 ∷ 37 ∷ 38 ∷ 39 ∷ 40 ∷ []) ≡ true) (aloneChecks h c) r
+          (refl, (refl, (refl, (refl, (refl, (refl, (refl, (refl, (refl, (refl, (refl, (refl, (refl, tt))))))))))))) (w .0),
+      w .1,
+    )
 
 measure-refused : (h : Head) (b : List ℕ) (r : Reason) → measureChunk h b ≡ NotMeasured r → OneOf r (71 ∷ 30 ∷ 31 ∷ 32 ∷ [])
 unfolding measureChunk any
@@ -173,16 +168,16 @@ module _ (b : List ℕ) (tag : ℕ) where
 -- ---- an offer
 
 module _ (h : Head) (x : Session) (c : List ℕ) (r : Reason) (e : verdictOf h x c ≡ NotTaken r) where
+  offer-place : offered h x c .spot ≡ spotFor h c (numberOf r)
+  unfolding spotOf
+  offer-place = offer-spot h x c (NotTaken r) e
+
   offer-numbers : OneOf r (71 ∷ 43 ∷ 30 ∷ 31 ∷ 32 ∷ 33 ∷ 34 ∷ 35 ∷ 36 ∷ 37 ∷ 38 ∷ 39 ∷ 40 ∷ 41 ∷ 42 ∷ [])
-  unfolding verdictOf any
+  unfolding any
   offer-numbers =
       number-in (λ (k : ℕ). among k (71 ∷ 43 ∷ 30 ∷ 31 ∷ 32 ∷ 33 ∷ 34 ∷ 35 ∷ 36 ∷ 37 ∷ 38 ∷ 39 ∷ 40 ∷ 41 ∷ 42 ∷ []) ≡ true) (offerChecks h x c) r
       (refl, (refl, (refl, (refl, (refl, (refl, (refl, (refl, (refl, (refl, (refl, (refl, (refl, (refl, (refl, (refl, tt))))))))))))))))
-      (tells offerSeen NotTaken (welcomed h x c) (λ q. refl) (welcome (eqb (mark x (indexOf c)) 0)) (offerChecks h x c) (Refused r) (ap offerSeen e))
-    where
-      welcome : (b : Bool) → offerSeen (cond b (Fresh (number (indexOf c)) (place (indexOf c * h .s))) (Repeat (number (indexOf c)) (place (indexOf c * h .s)))) ≡ Good
-      welcome true = refl
-      welcome false = refl
+      (offer-refused h x c r e)
 
   -- the session after a refusal by a number
   refusedBy : ℕ → Session
@@ -418,6 +413,7 @@ demand1 = record {
   field-refused = field-refused;
   field-inside = field-inside;
   offer-numbers = offer-numbers;
+  offer-place = offer-place;
   offer-uncounted = offer-uncounted;
   offer-counted = offer-counted;
   one-offer = one-offer;

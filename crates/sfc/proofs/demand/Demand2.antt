@@ -16,12 +16,13 @@ use Rattle.sfc.specs.format.Limits.{wantedBlocks}
 use Rattle.sfc.specs.session.Lent.{shapeWrong}
 use Rattle.sfc.specs.format.Extension.{fieldsIn, leftIn, knownTwice, extensionWrong}
 use Rattle.sfc.specs.format.Header.{flagsBarred, distinctBelow, acceptedHeader, readHeader}
-use Rattle.sfc.specs.format.Chunk.{indexOf, payloadOf, chunkChecks, aloneChecks, checkChunk}
+use Rattle.sfc.specs.format.Chunk.{indexOf, payloadOf, chunkChecks, aloneChecks}
+use Rattle.sfc.specs.format.Spot.{refusedChunk, checkChunk}
 use Rattle.sfc.specs.answer.Places.{number, place}
 use Rattle.sfc.specs.writing.Writer.{Input, blocks, body, region, preamble, trailer, payload, chunk, fileOf, nameWrong, hasReserved, risesWeakly, tagsFall, writeFile, headFor}
 use Rattle.sfc.specs.demand.Demand2.{Lawful, plain, Demand2}
 use Rattle.sfc.specs.answer.Numbers.{Answered}
-use Rattle.sfc.specs.declared.format.chunk.ChunkChecked.the-variants.{Whole, Refused}
+use Rattle.sfc.specs.declared.format.chunk.ChunkChecked.the-variants.{Whole}
 use Rattle.sfc.specs.declared.answer.written.Written.{Written}
 use Rattle.sfc.specs.declared.answer.written.Written.the-variants.{Bytes as Took}
 use Rattle.sfc.proofs.answer.CheckLaws.{passed, all-passed, good-all}
@@ -98,7 +99,7 @@ module _ (w : Input) (l : Lawful w) where
     unfolding checkChunk
     chunk-read-back rest =
         let c = chunk-of w (l .uuid-long) (right .shape) i h rest in (
-          good-all Refused (aloneChecks (headFor w) (chunk w i ++ rest)) (Whole (number (indexOf (chunk w i ++ rest))) (place 48))
+          good-all (refusedChunk (headFor w) (chunk w i ++ rest)) (aloneChecks (headFor w) (chunk w i ++ rest)) (Whole (number (indexOf (chunk w i ++ rest))) (place 48))
               (all-passed (aloneChecks (headFor w) (chunk w i ++ rest)) (right .shape, passed (chunkChecks (headFor w) (chunk w i ++ rest)) (c .whole)))
               ∙ ap (λ (k : ℕ). Whole (number k) (place 48)) (c .index),
           c .brings,

@@ -1,29 +1,40 @@
 -- What lies inside the front of a list is the same with anything after it; so each test of a whole chunk is, and of a header
 -- (proofs/format/HeaderParts.antt). Assumes nothing.
 use Prim.Native.Nat.{ℕ, _+_, _≤_}
-use mathlib.Core.Path.{_≡_, refl, sym, ap, ap₂, _∙_}
-use mathlib.Core.List.{List, _∷_, _++_}
+use mathlib.Core.Path.{_≡_, refl, sym, ap, _∙_}
+use mathlib.Core.Logic.{_≢_}
+use mathlib.Core.Bool.{true≢false}
+use mathlib.Core.List.{List, [], _∷_, _++_}
 use native.Mathlib.Omega.{arith}
-use borrow.Author.Tests.{le-ltb}
+use borrow.Author.Tests.{le-ltb, ne-eqb}
 use lib.Dec.{ltb}
 use lib.ListN.{length, take, length-append, List·getD-append}
 use lib.Seq.{take-append-le}
 use Rattle.little.specs.Parts.{part}
-use Rattle.little.proofs.Laws.{partLaws}
+use Rattle.little.specs.Fields.{bytesOf}
+use Rattle.little.proofs.Laws.{partLaws, littleLaws}
 use Rattle.blake3.specs.Tree.{hash}
 use Rattle.blake3.proofs.Laws.{hashLaws}
 use Rattle.little.specs.Runs.{zeros}
-use Rattle.sfc.specs.answer.Numbers.{Check, checked, verdict}
+use Rattle.sfc.specs.answer.Numbers.{Check, checked, verdict, numberOf}
 use Rattle.sfc.specs.session.Lent.{shapeWrong}
-use Rattle.sfc.specs.format.Chunk.{chunkMagic, endMarker, indexOf, typeOf, payloadLength, payloadOf, chunkLength, chunkChecks, checkChunk}
+use Rattle.sfc.specs.format.Chunk.{chunkMagic, endMarker, indexOf, typeOf, payloadLength, payloadOf, chunkLength, typeFor, chunkChecks, aloneChecks}
+use Rattle.sfc.specs.format.Spot.{spotFor, refusedChunk, checkChunk}
 use Rattle.sfc.specs.answer.Places.{number, place}
 use Rattle.sfc.specs.session.Tallies.{tallyFull}
-use Rattle.sfc.specs.session.Session.{Session, sessionWrong, markChecks, welcomed, verdictOf, settled, after, offered}
+use Rattle.sfc.specs.session.Session.{Session, sessionWrong, markChecks, welcomed, verdictOf, settled, after, spotOf, offered}
 use Rattle.sfc.specs.demand.Unread.{Unread}
+use Rattle.sfc.proofs.answer.CheckLaws.{EachHeld, number-held, good-all, refused-all}
 use Rattle.sfc.proofs.format.PlaceLaws.{le-front, stands-front}
+use Rattle.sfc.proofs.format.SpotLaws.{agreeing-front}
+use Rattle.sfc.proofs.session.BreakLaws.{Own, own-check, own-offer, offer-refused}
 use Rattle.sfc.proofs.format.HeaderParts.{read-seen}
 use Rattle.sfc.specs.declared.format.header.Head.{Head}
-use Rattle.sfc.specs.declared.format.chunk.ChunkChecked.the-variants.{Whole, Refused as Wrong}
+use Rattle.sfc.specs.declared.answer.reason.Reason.{Reason}
+use Rattle.sfc.specs.declared.answer.reason.Checked.{Checked}
+use Rattle.sfc.specs.declared.answer.reason.Checked.the-variants.{Good, Refused as Wrong}
+use Rattle.sfc.specs.declared.format.chunk.ChunkChecked.{ChunkChecked}
+use Rattle.sfc.specs.declared.format.chunk.ChunkChecked.the-variants.{Whole, Refused as NoChunk}
 use Rattle.sfc.specs.declared.session.offer.Verdict.{Verdict}
 use Rattle.sfc.specs.declared.session.offer.Verdict.the-variants.{Fresh, Repeat, Refused}
 
@@ -68,10 +79,47 @@ module _ (c rest : List ℕ) (whole : chunkLength c ≤ length c) where
           List·getD-append c rest 0 33 (omega arith),
         )
 
+    same-alone : aloneChecks h (c ++ rest) ≡ aloneChecks h c
+    same-alone = ap (λ (cs : List Check). (shapeWrong (h .size) (h .n) (h .m) (h .s), 71) ∷ cs) same-checks
+
+    -- the place of each number but 30's, which a chunk that is all there does not get
+    same-spot : (k : ℕ) → k ≢ 30 → spotFor h (c ++ rest) k ≡ spotFor h c k
+    unfolding spotFor
+    same-spot k n =
+        rw (
+          ne-eqb k 30 n,
+          same-length,
+          same-index,
+          agreeing-front c rest 0 chunkMagic (omega arith),
+          agreeing-front c rest (80 + payloadLength c) endMarker (omega arith),
+          agreeing-front c rest 4 (h .uuid) (omega arith),
+          agreeing-front c rest 24 (bytesOf 4 (typeFor (h .n) (indexOf c))) (omega (arith, littleLaws 4 .long (typeFor (h .n) (indexOf c)))),
+          agreeing-front c rest 34 (zeros 14) (omega arith),
+          agreeing-front c rest 32 (h .compression ∷ h .erasure ∷ []) (omega arith),
+          agreeing-front c rest 28 (bytesOf 4 (h .s)) (omega (arith, littleLaws 4 .long (h .s))),
+        )
+
+    never-30 : EachHeld (λ (k : ℕ). k ≢ 30) (chunkChecks h c)
+    never-30 =
+        (λ e. absurd (true≢false (sym e ∙ le-ltb (length c) 48 (omega arith))), λ _. (λ e q. omega arith, λ _. (λ e q. omega arith, λ _. (λ e. absurd (true≢false (sym e ∙ le-ltb (length c) (chunkLength c) whole)), λ _. (λ e q. omega arith, λ _. (λ e q. omega arith, λ _. (λ e q. omega arith, λ _. (λ e q. omega arith, λ _. (λ e q. omega arith, λ _. (λ e q. omega arith, λ _. (λ e q. omega arith, λ _. (λ e q. omega arith, λ _. tt))))))))))))
+
+    same-place : (r : Reason) → (numberOf r ≤ 40 → Own h c r) → spotFor h (c ++ rest) (numberOf r) ≡ spotFor h c (numberOf r)
+    same-place r own = same-spot (numberOf r) (λ q. number-held (λ (k : ℕ). k ≢ 30) (chunkChecks h c) r never-30 (own (omega (arith, q)) .refuses) q)
+
+    abbrev answer : List ℕ → List Check → ChunkChecked
+    answer b cs = checked cs (refusedChunk h b) (Whole (number (indexOf b)) (place 48))
+
     same-checked : checkChunk h (c ++ rest) ≡ checkChunk h c
     unfolding checkChunk
-    same-checked =
-        ap₂ (λ (cs : List Check) (i : ℕ). checked ((shapeWrong (h .size) (h .n) (h .m) (h .s), 71) ∷ cs) Wrong (Whole (number i) (place 48))) same-checks same-index
+    same-checked = go (verdict (aloneChecks h c)) refl
+      where
+        go : (v : Checked) → verdict (aloneChecks h c) ≡ v → answer (c ++ rest) (aloneChecks h (c ++ rest)) ≡ answer c (aloneChecks h c)
+        go Good e =
+            ap (answer (c ++ rest)) same-alone ∙ good-all (refusedChunk h (c ++ rest)) (aloneChecks h c) (Whole (number (indexOf (c ++ rest))) (place 48)) e
+            ∙ ap (λ (i : ℕ). Whole (number i) (place 48)) same-index ∙ sym (good-all (refusedChunk h c) (aloneChecks h c) (Whole (number (indexOf c)) (place 48)) e)
+        go (Wrong r) e =
+            ap (answer (c ++ rest)) same-alone ∙ refused-all (refusedChunk h (c ++ rest)) (aloneChecks h c) (Whole (number (indexOf (c ++ rest))) (place 48)) r e
+            ∙ ap (NoChunk r) (same-place r (own-check h c r e)) ∙ sym (refused-all (refusedChunk h c) (aloneChecks h c) (Whole (number (indexOf c)) (place 48)) r e)
 
     module _ (x : Session) where
       same-verdict : verdictOf h x (c ++ rest) ≡ verdictOf h x c
@@ -91,9 +139,15 @@ module _ (c rest : List ℕ) (whole : chunkLength c ≤ length c) where
       unfolding after
       same-after = rw (same-verdict, same-settled (verdictOf h x c))
 
+      same-broken : (v : Verdict) → verdictOf h x c ≡ v → spotOf h (c ++ rest) v ≡ spotOf h c v
+      unfolding spotOf
+      same-broken (Fresh i p) e = refl
+      same-broken (Repeat i p) e = refl
+      same-broken (Refused r) e = same-place r (λ low. own-offer h x c r low (offer-refused h x c r e))
+
       same-offered : offered h x (c ++ rest) ≡ offered h x c
       unfolding offered
-      same-offered = rw (same-after, same-verdict)
+      same-offered = rw (same-after, same-verdict, same-broken (verdictOf h x c) refl)
 
 pub unread : Unread
 unread =

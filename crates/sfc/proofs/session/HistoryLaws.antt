@@ -31,7 +31,7 @@ use Rattle.sfc.specs.declared.answer.reason.Checked.{Checked}
 use Rattle.sfc.specs.declared.answer.reason.Checked.the-variants.{Good, Refused as Wrong}
 use Rattle.sfc.specs.declared.session.offer.Verdict.{Verdict}
 use Rattle.sfc.specs.declared.session.offer.Verdict.the-variants.{Fresh, Repeat, Refused}
-use Rattle.sfc.proofs.session.SessionLaws.{right-lent, Facts, facts, after-by, offered-session, lent-refused, chunk-refused, verdict-fresh, verdict-repeat, verdict-conflict, verdict-barred}
+use Rattle.sfc.proofs.session.SessionLaws.{right-lent, Facts, facts, after-by, judged-session, lent-refused, chunk-refused, verdict-fresh, verdict-repeat, verdict-conflict, verdict-barred}
 use Rattle.sfc.proofs.session.MarkLaws.{fit-at, fit-all}
 use Rattle.sfc.proofs.session.BlockSteps.{done, done-absent, done-copy, done-differs, done-barred, Kept, Sound, laidAt, laid-sound, laid-swap}
 
@@ -146,9 +146,9 @@ module _ (h : Head) where
   kept-after x c f = go (sessionWrong h x) (verdict (chunkChecks h c)) refl refl
     where
       go : (t : Bool) (v : Checked) → sessionWrong h x ≡ t → verdict (chunkChecks h c) ≡ v → keptOf (after h x c) ≡ cond (keptWrong (keptOf x)) (keptOf x) (keepBy (verdict (chunkChecks h c)) (keptOf x) c)
-      go true v e g = ap keptOf (sym (offered-session h x c)) ∙ ap (λ o. keptOf (o .session)) (sym (lent-refused h x c e)) ∙ (rw e)
+      go true v e g = ap keptOf (sym (judged-session h x c)) ∙ ap (λ o. keptOf (o .session)) (sym (lent-refused h x c e)) ∙ (rw e)
       go false (Wrong r) e g =
-          ap keptOf (sym (offered-session h x c)) ∙ ap (λ o. keptOf (o .session)) (sym (chunk-refused h x c e f r g (countedRefusal (x .tallies) (numberOf r)) refl)) ∙ (rw (e, g))
+          ap keptOf (sym (judged-session h x c)) ∙ ap (λ o. keptOf (o .session)) (sym (chunk-refused h x c e f r g (countedRefusal (x .tallies) (numberOf r)) refl)) ∙ (rw (e, g))
       go false Good e g = welcome-kept x c (record { lent = e; room = f; whole = g }) ∙ (rw (e, g))
 
   pub keep-wrong : (k : Kept) (c : List ℕ) → keptWrong k ≡ true → keep k c ≡ k
@@ -406,7 +406,7 @@ foreign-removable h x cs ds c r e w s =
     let t = total-all h x cs in
     let wy : sessionWrong h (afterAll h x cs) ≡ false = ap (λ (k : Kept). keptWrong h k) (kept-all h x cs (omega arith)) ∙ right-all h (keptOf x) cs w in
     let fy : tallyFull (afterAll h x cs .tallies) ≡ false = not-full (afterAll h x cs .tallies) (omega arith) in
-    let o = sym (offered-session h (afterAll h x cs) c) ∙ ap (λ z. z .session) (sym (chunk-refused h (afterAll h x cs) c wy fy r e (countedRefusal (afterAll h x cs .tallies) (numberOf r)) refl)) in
+    let o = sym (judged-session h (afterAll h x cs) c) ∙ ap (λ z. z .session) (sym (chunk-refused h (afterAll h x cs) c wy fy r e (countedRefusal (afterAll h x cs .tallies) (numberOf r)) refl)) in
     let k : keptOf (afterAll h x cs) ≡ keptOf (after h (afterAll h x cs) c) = sym (ap keptOf o) in
     let u : after h (afterAll h x cs) c .tallies ≡ countedRefusal (afterAll h x cs .tallies) (numberOf r) = ap (λ (z : Session). z .tallies) o in
     let b = total-refusal (afterAll h x cs .tallies) (numberOf r) in

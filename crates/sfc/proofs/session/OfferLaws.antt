@@ -27,7 +27,7 @@ use Rattle.sfc.specs.declared.answer.places.BytePlace.{BytePlace}
 use Rattle.sfc.specs.declared.session.offer.Verdict.{Verdict}
 use Rattle.sfc.specs.declared.session.offer.Verdict.the-variants.{Fresh, Repeat, Refused}
 use Rattle.sfc.proofs.answer.CheckLaws.{all-passed, front-good, let-through}
-use Rattle.sfc.proofs.session.SessionLaws.{Facts, facts, after-by, full-refused, offered-session}
+use Rattle.sfc.proofs.session.SessionLaws.{Facts, facts, after-by, full-refused, judged-session}
 use Rattle.sfc.proofs.session.MarkLaws.{fit-at}
 use Rattle.sfc.proofs.session.BlockSteps.{Kept}
 use Rattle.sfc.proofs.session.HistoryLaws.{keptOf, keptWrong, keep-right, kept-after}
@@ -171,7 +171,7 @@ module _ (h : Head) (x : Session) (c : List ℕ) where
   lent-stays e = go (tallyFull (x .tallies)) refl
     where
       go : (t : Bool) → tallyFull (x .tallies) ≡ t → sessionWrong h (after h x c) ≡ false
-      go true f = subst (λ (y : Session). sessionWrong h y ≡ false) (ap (λ o. o .session) (full-refused h x c e f) ∙ offered-session h x c) e
+      go true f = subst (λ (y : Session). sessionWrong h y ≡ false) (ap (λ o. o .session) (full-refused h x c e f) ∙ judged-session h x c) e
       go false f = ap (λ (k : Kept). keptWrong h k) (kept-after h x c f) ∙ keep-right h (keptOf x) c e
 
 pub one-offer : OneOffer

@@ -34,7 +34,7 @@ use Rattle.sfc.specs.declared.session.offer.Verdict.the-variants.{Fresh,
 use Rattle.sfc.proofs.answer.CheckLaws.{passes-good, good-passes, refused-then}
 use Rattle.sfc.proofs.session.MarkLaws.{right-shape}
 use Rattle.sfc.proofs.session.TallyLaws.{counts-one}
-use Rattle.sfc.proofs.session.SessionLaws.{offered-session, lent-refused, past-two, past-all, verdict-fresh, verdict-repeat, verdict-conflict, verdict-barred}
+use Rattle.sfc.proofs.session.SessionLaws.{judged-session, lent-refused, past-two, past-all, verdict-fresh, verdict-repeat, verdict-conflict, verdict-barred}
 use Rattle.sfc.proofs.session.HistoryLaws.{after-tallies, total-counted, not-full, perm-length, many-offers}
 use Rattle.sfc.proofs.session.OfferLaws.{one-offer}
 use Rattle.sfc.proofs.session.CountLaws.{tallies-count}
@@ -287,7 +287,7 @@ wrong-stays : (h : Head) (x : Session) (cs : List (List ℕ)) → sessionWrong h
 unfolding afterAll
 wrong-stays h x [] e = refl
 wrong-stays h x (c ∷ cs) e =
-    ap (λ (y : Session). afterAll h y cs) (sym (offered-session h x c) ∙ ap (λ o. o .session) (sym (lent-refused h x c e)))
+    ap (λ (y : Session). afterAll h y cs) (sym (judged-session h x c) ∙ ap (λ o. o .session) (sym (lent-refused h x c e)))
     ∙ wrong-stays h x cs e
 
 thirties-order-free : (h : Head) (x : Session) (cs ds : List (List ℕ)) → List·Permᴰ cs ds → ShortOf43 x (length cs) → (k : ℕ) → OfChunkAlone k

@@ -15,8 +15,8 @@ use Rattle.sfc.specs.session.Lent.{marksWrong, lentWrong}
 use Rattle.sfc.specs.format.Chunk.{indexOf, payloadLength, payloadOf, chunkLength, chunkChecks}
 use Rattle.sfc.specs.answer.Places.{number, place}
 use Rattle.sfc.specs.session.Tallies.{tallyFull, countedRefusal, counted}
-use Rattle.sfc.specs.session.Session.{Session, mark, blockOf, sessionWrong, markChecks, welcomed, verdictOf, settled, tallied, after, Offered, offered}
-use Rattle.sfc.specs.inner.Steps.{Stepped, stepped, Welcome}
+use Rattle.sfc.specs.session.Session.{Session, mark, blockOf, sessionWrong, markChecks, welcomed, verdictOf, sessionOf, settled, afterVerdict, tallied, after}
+use Rattle.sfc.specs.inner.Steps.{Stepped, stepped, Welcome, Judged, judgedOf, judged}
 use Rattle.sfc.specs.session.Right.{RightLent}
 use Rattle.sfc.specs.declared.format.header.Head.{Head}
 use Rattle.sfc.specs.declared.session.tallies.Tallies.{Tallies}
@@ -143,36 +143,33 @@ number-in P [] r o e = absurd (let z : _≡_ {A = ℕ} 0 1 = cc in omega arith)
 number-in P ((true, k) ∷ cs) r o e = let f : reasonOf k ≡ r = cc in subst (λ (q : Reason). P (numberOf q)) f (o .0)
 number-in P ((false, k) ∷ cs) r o e = number-in P cs r (o .1) e
 
-abbrev madeBy : Head → Session → List ℕ → Verdict → Offered
-madeBy h x c v = record { session = tallied (settled h x c v) v; verdict = v }
-
-abbrev pub outcome : List ℕ → List ℕ → Tallies → Verdict → Offered
-outcome store marks t v = record { session = record { store = store; marks = marks; tallies = t }; verdict = v }
+abbrev madeBy : Head → Session → List ℕ → Verdict → Judged
+madeBy h x c v = record { session = afterVerdict h x c v; verdict = v }
 
 module _ (h : Head) (x : Session) (c : List ℕ) where
-  offered-by : (v : Verdict) → verdictOf h x c ≡ v → madeBy h x c v ≡ offered h x c
-  unfolding offered after
-  offered-by v e = ap (madeBy h x c) (sym e)
+  judged-by : (v : Verdict) → verdictOf h x c ≡ v → madeBy h x c v ≡ judged h x c
+  unfolding judged after
+  judged-by v e = ap (madeBy h x c) (sym e)
 
-  pub after-by : (v : Verdict) → verdictOf h x c ≡ v → after h x c ≡ tallied (settled h x c v) v
+  pub after-by : (v : Verdict) → verdictOf h x c ≡ v → after h x c ≡ afterVerdict h x c v
   unfolding after
-  after-by v e = ap (λ (u : Verdict). tallied (settled h x c u) u) e
+  after-by v e = ap (afterVerdict h x c) e
 
-  pub offered-session : offered h x c .session ≡ after h x c
-  unfolding offered
-  offered-session = refl
+  pub judged-session : judged h x c .session ≡ after h x c
+  unfolding judged
+  judged-session = refl
 
   -- a refusal that is not 41 leaves store and marks
   refused-by : (r : Reason) → verdictOf h x c ≡ Refused r → (numberOf r ≡ 41 → ⊥)
-      → outcome (x .store) (x .marks) (countedRefusal (x .tallies) (numberOf r)) (Refused r) ≡ offered h x c
+      → judgedOf (x .store) (x .marks) (countedRefusal (x .tallies) (numberOf r)) (Refused r) ≡ judged h x c
   unfolding settled counted
-  refused-by r e n = rw (ne-eqb (numberOf r) 41 n) at (offered-by (Refused r) e)
+  refused-by r e n = rw (ne-eqb (numberOf r) 41 n) at (judged-by (Refused r) e)
 
-  pub lent-refused : sessionWrong h x ≡ true → outcome (x .store) (x .marks) (x .tallies) (Refused Lent) ≡ offered h x c
+  pub lent-refused : sessionWrong h x ≡ true → judgedOf (x .store) (x .marks) (x .tallies) (Refused Lent) ≡ judged h x c
   unfolding verdictOf countedRefusal
   lent-refused e = refused-by Lent (rw e) (λ z. omega arith)
 
-  pub full-refused : sessionWrong h x ≡ false → tallyFull (x .tallies) ≡ true → outcome (x .store) (x .marks) (x .tallies) (Refused TallyFull) ≡ offered h x c
+  pub full-refused : sessionWrong h x ≡ false → tallyFull (x .tallies) ≡ true → judgedOf (x .store) (x .marks) (x .tallies) (Refused TallyFull) ≡ judged h x c
   unfolding verdictOf countedRefusal
   full-refused e f = refused-by TallyFull (rw (e, f)) (λ z. omega arith)
 
@@ -187,9 +184,9 @@ module _ (h : Head) (x : Session) (c : List ℕ) where
       (between 30 tt, (between 31 tt, (between 32 tt, (between 30 tt, (between 33 tt, (between 34 tt, (between 35 tt, (between 36 tt, (between 37 tt, (between 38 tt, (between 39 tt, (between 40 tt, tt)))))))))))) e
 
   pub chunk-refused : sessionWrong h x ≡ false → tallyFull (x .tallies) ≡ false → (r : Reason) → verdict (chunkChecks h c) ≡ Wrong r → (t : Tallies)
-      → t ≡ countedRefusal (x .tallies) (numberOf r) → outcome (x .store) (x .marks) t (Refused r) ≡ offered h x c
+      → t ≡ countedRefusal (x .tallies) (numberOf r) → judgedOf (x .store) (x .marks) t (Refused r) ≡ judged h x c
   chunk-refused e f r g t et =
-      ap (λ (u : Tallies). outcome (x .store) (x .marks) u (Refused r)) et
+      ap (λ (u : Tallies). judgedOf (x .store) (x .marks) u (Refused r)) et
       ∙ refused-by r (past-two e f ∙ refused-then Refused (chunkChecks h c) (markChecks h x c) (welcomed h x c) r g) (λ z. omega (arith, chunk-number r g))
 
   module _ (w : Welcome h x c) where
@@ -231,47 +228,47 @@ module _ (h : Head) (x : Session) (c : List ℕ) where
       module _ (t : Tallies) where
         pub whole-laid : made b Laid ≡ stepped (mark x (indexOf c)) (part (x .store) (indexOf c * h .s) n) (part c 48 (48 + h .s - 48))
             → t ≡ record { fresh = x .tallies .fresh + 1; repeat = x .tallies .repeat; refused = x .tallies .refused }
-            → outcome (take (indexOf c * h .s) (x .store) ++ (b ++ drop n (drop (indexOf c * h .s) (x .store)))) (set (x .marks) (indexOf c) 1) t
-            (Fresh (number (indexOf c)) (place (indexOf c * h .s))) ≡ offered h x c
+            → judgedOf (take (indexOf c * h .s) (x .store) ++ (b ++ drop n (drop (indexOf c * h .s) (x .store)))) (set (x .marks) (indexOf c) 1) t
+            (Fresh (number (indexOf c)) (place (indexOf c * h .s))) ≡ judged h x c
         unfolding settled counted
         whole-laid e et =
             let q = told (mark x (indexOf c)) (part (x .store) (indexOf c * h .s) n) (part c 48 (48 + h .s - 48)) b Laid e in
             let f = facts h x c w in
             let eb : b ≡ payloadOf c = q .1 ∙ payload-lent h x c f in
             let lb : length b ≡ h .s = ap length eb ∙ partLaws .length-part c 48 (payloadLength c) (omega (arith, f .there)) ∙ f .long in
-            rw (stored lb, eb, et) (offered-by (Fresh (number (indexOf c)) (place (indexOf c * h .s))) (verdict-fresh (q .0)))
+            rw (stored lb, eb, et) (judged-by (Fresh (number (indexOf c)) (place (indexOf c * h .s))) (verdict-fresh (q .0)))
 
         pub whole-copy : made b Copy ≡ stepped (mark x (indexOf c)) (part (x .store) (indexOf c * h .s) n) (part c 48 (48 + h .s - 48))
             → t ≡ record { fresh = x .tallies .fresh; repeat = x .tallies .repeat + 1; refused = x .tallies .refused }
-            → outcome (take (indexOf c * h .s) (x .store) ++ (b ++ drop n (drop (indexOf c * h .s) (x .store)))) (x .marks) t
-            (Repeat (number (indexOf c)) (place (indexOf c * h .s))) ≡ offered h x c
+            → judgedOf (take (indexOf c * h .s) (x .store) ++ (b ++ drop n (drop (indexOf c * h .s) (x .store)))) (x .marks) t
+            (Repeat (number (indexOf c)) (place (indexOf c * h .s))) ≡ judged h x c
         unfolding settled counted
         whole-copy e et =
             let q = told (mark x (indexOf c)) (part (x .store) (indexOf c * h .s) n) (part c 48 (48 + h .s - 48)) b Copy e in
             let f = facts h x c w in
             let s : same (blockOf h x (indexOf c)) (payloadOf c) ≡ true = ap₂ same (sym lent-block) (sym (payload-lent h x c f)) ∙ q .1 in
-            rw (unchanged (q .2), et) (offered-by (Repeat (number (indexOf c)) (place (indexOf c * h .s))) (verdict-repeat (q .0) s))
+            rw (unchanged (q .2), et) (judged-by (Repeat (number (indexOf c)) (place (indexOf c * h .s))) (verdict-repeat (q .0) s))
 
         pub whole-differs : made b Differs ≡ stepped (mark x (indexOf c)) (part (x .store) (indexOf c * h .s) n) (part c 48 (48 + h .s - 48))
             → t ≡ countedRefusal (x .tallies) 41
-            → outcome (take (indexOf c * h .s) (x .store) ++ (b ++ drop n (drop (indexOf c * h .s) (x .store)))) (set (x .marks) (indexOf c) 2) t (Refused Conflict) ≡ offered h x c
+            → judgedOf (take (indexOf c * h .s) (x .store) ++ (b ++ drop n (drop (indexOf c * h .s) (x .store)))) (set (x .marks) (indexOf c) 2) t (Refused Conflict) ≡ judged h x c
         unfolding settled counted
         whole-differs e et =
             let q = told (mark x (indexOf c)) (part (x .store) (indexOf c * h .s) n) (part c 48 (48 + h .s - 48)) b Differs e in
             let f = facts h x c w in
             let eb : b ≡ zeros (h .s) = q .2 ∙ ap (λ (k : ℕ). zeros k) length-lent in
             let s : same (blockOf h x (indexOf c)) (payloadOf c) ≡ false = ap₂ same (sym lent-block) (sym (payload-lent h x c f)) ∙ q .1 in
-            rw (stored (ap length eb ∙ length-replicate {A = ℕ} (h .s) 0), eb, et) (offered-by (Refused Conflict) (verdict-conflict (q .0) s))
+            rw (stored (ap length eb ∙ length-replicate {A = ℕ} (h .s) 0), eb, et) (judged-by (Refused Conflict) (verdict-conflict (q .0) s))
 
         pub whole-barred : made b StepBarred ≡ stepped (mark x (indexOf c)) (part (x .store) (indexOf c * h .s) n) (part c 48 (48 + h .s - 48))
             → t ≡ countedRefusal (x .tallies) 42
-            → outcome (take (indexOf c * h .s) (x .store) ++ (b ++ drop n (drop (indexOf c * h .s) (x .store)))) (x .marks) t (Refused Barred) ≡ offered h x c
+            → judgedOf (take (indexOf c * h .s) (x .store) ++ (b ++ drop n (drop (indexOf c * h .s) (x .store)))) (x .marks) t (Refused Barred) ≡ judged h x c
         unfolding settled counted
         whole-barred e et =
             let q = told (mark x (indexOf c)) (part (x .store) (indexOf c * h .s) n) (part c 48 (48 + h .s - 48)) b StepBarred e in
             let m : mark x (indexOf c) < 3 = fit-at (x .marks) (indexOf c) (facts h x c w .right .fit) in
             let two : mark x (indexOf c) ≡ 2 = omega (arith, q .0, q .1) in
-            rw (unchanged (q .2), et) (offered-by (Refused Barred) (verdict-barred two))
+            rw (unchanged (q .2), et) (judged-by (Refused Barred) (verdict-barred two))
 
 -- ---- what the code's needs ask
 

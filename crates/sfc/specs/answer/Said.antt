@@ -1,11 +1,13 @@
 -- What each answer of the container says, case by case: document 01's number of a refusal, or a word and the values that go with
 -- it. What the calls say is in demand/Answers. Assumes nothing: these are definitions.
+use Prim.Native.Nat.{ℕ}
 use mathlib.Core.Bool.{Bool, true, cond, _&&_}
 use mathlib.Core.List.{List, [], _∷_}
 use lib.Dec.{eqb}
 use Rattle.little.specs.Said.{Said, refused, says}
 use Rattle.sfc.specs.answer.Numbers.{Check, numberOf, reasonOf}
 use Rattle.sfc.specs.declared.answer.reason.Checked.{Checked}
+use Rattle.sfc.specs.declared.answer.places.Spot.{Spot}
 use Rattle.sfc.specs.declared.answer.written.Written.{Written}
 use Rattle.sfc.specs.declared.format.header.HeaderRead.{HeaderRead}
 use Rattle.sfc.specs.declared.format.lookup.FieldFound.{FieldFound}
@@ -28,6 +30,11 @@ byNumber (c ∷ cs) good = cond (c .0) (refused (c .1)) (byNumber cs good)
 abbrev pub tabled : List Check → Bool
 tabled [] = true
 tabled (c ∷ cs) = eqb (numberOf (reasonOf (c .1))) (c .1) && tabled cs
+
+-- the place that goes with a number, where one is said; any other answer has none
+abbrev pub spotSaid : (ℕ → Spot) → Said → Spot
+spotSaid places (refused k) = places k
+spotSaid places (says word values) = Spot.Nowhere
 
 -- ---- what a list of checks came to, alone or beside what was read
 
@@ -52,7 +59,12 @@ fieldSaid (FieldFound.Refused r) = refused (numberOf r)
 -- the chunk's index, and the place of its payload
 abbrev pub chunkSaid : ChunkChecked → Said
 chunkSaid (ChunkChecked.Whole i p) = says "whole" (i .0 ∷ p .0 ∷ [])
-chunkSaid (ChunkChecked.Refused r) = refused (numberOf r)
+chunkSaid (ChunkChecked.Refused r p) = refused (numberOf r)
+
+-- where it broke: a whole chunk nowhere
+abbrev pub chunkSpot : ChunkChecked → Spot
+chunkSpot (ChunkChecked.Whole i p) = Spot.Nowhere
+chunkSpot (ChunkChecked.Refused r p) = p
 
 -- how many bytes the chunk takes up
 abbrev pub measuredSaid : ChunkMeasured → Said

@@ -8,11 +8,12 @@ use mathlib.Core.List.{List, [], _∷_}
 use lib.Dec.{eqb}
 use lib.ListN.{length}
 use Rattle.little.specs.Said.{says, Apart}
-use Rattle.sfc.specs.answer.Said.{byNumber, checkedSaid, headerSaid, noteSaid, fieldSaid, chunkSaid, measuredSaid, verdictSaid, countedSaid, handedOutSaid, prefixSaid, blockSaid, listedSaid, writtenSaid}
+use Rattle.sfc.specs.answer.Said.{byNumber, checkedSaid, headerSaid, noteSaid, fieldSaid, chunkSaid, chunkSpot, spotSaid, measuredSaid, verdictSaid, countedSaid, handedOutSaid, prefixSaid, blockSaid, listedSaid, writtenSaid}
 use Rattle.sfc.specs.format.Header.{headerChecks, regionOf, readHeader}
 use Rattle.sfc.specs.format.Extension.{fieldsOf}
 use Rattle.sfc.specs.format.Lookup.{foundAmong, extensionOf, extensionPlace, findField}
-use Rattle.sfc.specs.format.Chunk.{indexOf, chunkLength, measureChecks, measureChunk, aloneChecks, checkChunk}
+use Rattle.sfc.specs.format.Chunk.{indexOf, chunkLength, measureChecks, measureChunk, aloneChecks}
+use Rattle.sfc.specs.format.Spot.{spotFor, checkChunk}
 use Rattle.sfc.specs.session.Marks.{heldCount, barredCount}
 use Rattle.sfc.specs.session.Lent.{Lent, countChecks, countMarks}
 use Rattle.sfc.specs.session.Session.{Session, mark, offerChecks, offered}
@@ -24,18 +25,22 @@ use Rattle.sfc.specs.note.Ranges.{boundsFor, rangeChecks, listRanges}
 use Rattle.sfc.specs.note.Note.{noteFor, noteChecks, writeNote, readChecks, readNote}
 use Rattle.sfc.specs.writing.Writer.{Input, fileOf, writerChecks, writeFile}
 use Rattle.sfc.specs.declared.format.header.Head.{Head}
+use Rattle.sfc.specs.declared.format.chunk.ChunkChecked.{ChunkChecked}
 
 pub record Answers : Type 0 where
   -- a header, and one of its fields: where its value stands and how long it is, or that there is none
   pub header : (b : List ℕ) → headerSaid (readHeader b) ≡ byNumber (headerChecks b) (says "good" [])
   pub field : (b : List ℕ) (tag : ℕ) → fieldSaid (findField b tag)
       ≡ byNumber (headerChecks b) (fieldSaid (foundAmong tag (extensionPlace (regionOf b)) (fieldsOf (extensionOf (regionOf b)))))
-  -- a chunk by itself: its index, and the payload's place in it; and how long it is
+  -- a chunk by itself: its index, and the payload's place in it; where it broke, by the number it is refused with; and how long it is
   pub chunk : (h : Head) (c : List ℕ) → chunkSaid (checkChunk h c) ≡ byNumber (aloneChecks h c) (says "whole" (indexOf c ∷ 48 ∷ []))
+  pub chunk-place : (h : Head) (c : List ℕ) → chunkSpot (checkChunk h c) ≡ spotSaid (spotFor h c) (chunkSaid (checkChunk h c))
   pub measure : (h : Head) (b : List ℕ) → measuredSaid (measureChunk h b) ≡ byNumber (measureChecks h b) (says "length" (chunkLength b ∷ []))
-  -- an offer: fresh for an absent index, else a repeat; the index, and its block's place in the store
+  -- an offer: fresh for an absent index, else a repeat; the index, and its block's place in the store; where it broke
   pub offer : (h : Head) (x : Session) (c : List ℕ) → verdictSaid (offered h x c .verdict)
       ≡ byNumber (offerChecks h x c) (says (cond (eqb (mark x (indexOf c)) 0) "fresh" "repeat") (indexOf c ∷ indexOf c * h .s ∷ []))
+  pub offer-place : (h : Head) (x : Session) (c : List ℕ)
+      → offered h x c .spot ≡ spotSaid (spotFor h c) (verdictSaid (offered h x c .verdict))
   pub count : (h : Head) (marks : List ℕ) → countedSaid (countMarks h marks)
       ≡ byNumber (countChecks h marks) (says "counts" (heldCount marks ∷ barredCount marks ∷ []))
   -- the hand-out alone says complete, with the size; the block with its place in the content, the prefix with its blocks and bytes
@@ -62,7 +67,8 @@ pub record Answers : Type 0 where
 pub record SaidApart : Type 0 where
   pub checked : Apart checkedSaid
   pub field : Apart fieldSaid
-  pub chunk : Apart chunkSaid
+  -- a chunk's with the place beside
+  pub chunk : (v w : ChunkChecked) → chunkSaid v ≡ chunkSaid w → chunkSpot v ≡ chunkSpot w → v ≡ w
   pub measured : Apart measuredSaid
   pub verdict : Apart verdictSaid
   pub counted : Apart countedSaid

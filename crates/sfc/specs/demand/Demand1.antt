@@ -10,11 +10,12 @@ use lib.ListN.{length, drop}
 use Rattle.little.specs.Runs.{zeros, among}
 use Rattle.sfc.specs.answer.Numbers.{numberOf}
 use Rattle.sfc.specs.format.Header.{lengthField, readHeader, refusedHeader}
-use Rattle.sfc.specs.format.Chunk.{checkChunk, measureChunk}
+use Rattle.sfc.specs.format.Chunk.{measureChunk}
+use Rattle.sfc.specs.format.Spot.{spotFor, checkChunk}
 use Rattle.sfc.specs.answer.Places.{place}
 use Rattle.sfc.specs.format.Lookup.{findField}
 use Rattle.sfc.specs.session.Tallies.{countedRefusal}
-use Rattle.sfc.specs.session.Session.{Session, verdictOf, after}
+use Rattle.sfc.specs.session.Session.{Session, verdictOf, after, offered}
 use Rattle.sfc.specs.session.SessionTheorems.{OneOffer}
 use Rattle.sfc.specs.give.HandOut.{lentAfter, handOut}
 use Rattle.sfc.specs.session.Lent.{Lent, rebuildWrong, countMarks}
@@ -27,6 +28,7 @@ use Rattle.sfc.specs.writing.Writer.{Input, writeFile}
 use Rattle.sfc.specs.declared.format.header.Head.{Head}
 use Rattle.sfc.specs.declared.answer.places.BlockNumber.{BlockNumber}
 use Rattle.sfc.specs.declared.answer.places.BytePlace.{BytePlace}
+use Rattle.sfc.specs.declared.answer.places.Spot.{Spot}
 use Rattle.sfc.specs.declared.answer.reason.Reason.{Reason}
 use Rattle.sfc.specs.declared.answer.reason.Checked.the-variants.{Good, Refused}
 use Rattle.sfc.specs.declared.format.chunk.ChunkChecked.the-variants.{Refused as NoChunk}
@@ -66,9 +68,9 @@ pub record Demand1 : Type 0 where
   -- A header: 10 to 23, and of the head nothing but zeros.
   pub header-refused : (b : List ℕ) (r : Reason) → readHeader b .verdict ≡ Refused r
       → (10 ≤ numberOf r) × (numberOf r ≤ 23) × (readHeader b ≡ refusedHeader r)
-  -- A chunk by itself: 71 or 30 to 40.
-  pub chunk-refused : (h : Head) (c : List ℕ) (r : Reason) → checkChunk h c ≡ NoChunk r
-      → OneOf r (71 ∷ 30 ∷ 31 ∷ 32 ∷ 33 ∷ 34 ∷ 35 ∷ 36 ∷ 37 ∷ 38 ∷ 39 ∷ 40 ∷ [])
+  -- A chunk by itself: 71 or 30 to 40, and beside the number the place that belongs to it, which is all that is added (session/SpotTheorems).
+  pub chunk-refused : (h : Head) (c : List ℕ) (r : Reason) (p : Spot) → checkChunk h c ≡ NoChunk r p
+      → OneOf r (71 ∷ 30 ∷ 31 ∷ 32 ∷ 33 ∷ 34 ∷ 35 ∷ 36 ∷ 37 ∷ 38 ∷ 39 ∷ 40 ∷ []) × (p ≡ spotFor h c (numberOf r))
   -- How long a chunk is: 71, 30, 31 or 32; and the count of marks: 71.
   pub measure-refused : (h : Head) (b : List ℕ) (r : Reason) → measureChunk h b ≡ NotMeasured r → OneOf r (71 ∷ 30 ∷ 31 ∷ 32 ∷ [])
   pub count-refused : (h : Head) (marks : List ℕ) (r : Reason) → countMarks h marks ≡ NotCounted r → OneOf r (71 ∷ [])
@@ -78,10 +80,11 @@ pub record Demand1 : Type 0 where
       → OneOf r (10 ∷ 11 ∷ 12 ∷ 13 ∷ 14 ∷ 15 ∷ 16 ∷ 17 ∷ 18 ∷ 19 ∷ 20 ∷ 21 ∷ 22 ∷ 23 ∷ []) × (readHeader b .verdict ≡ Refused r)
   pub field-inside : (b : List ℕ) (tag p long : ℕ) → findField b tag ≡ At (place p) long
       → (readHeader b .verdict ≡ Good) × (p + long ≤ lengthField b + 12) × (lengthField b + 76 ≤ length b)
-  -- An offer: 71, 43 or 30 to 42. By 71 and 43 nothing changes at all; any other adds one to its own tally. Store and marks stay
-  -- by every number but 41, which bars its index.
+  -- An offer: 71, 43 or 30 to 42, and the place of that number. By 71 and 43 nothing changes at all; any other adds one to its own
+  -- tally. Store and marks stay by every number but 41, which bars its index.
   pub offer-numbers : (h : Head) (x : Session) (c : List ℕ) (r : Reason) → verdictOf h x c ≡ NotTaken r
       → OneOf r (71 ∷ 43 ∷ 30 ∷ 31 ∷ 32 ∷ 33 ∷ 34 ∷ 35 ∷ 36 ∷ 37 ∷ 38 ∷ 39 ∷ 40 ∷ 41 ∷ 42 ∷ [])
+  pub offer-place : (h : Head) (x : Session) (c : List ℕ) (r : Reason) → verdictOf h x c ≡ NotTaken r → offered h x c .spot ≡ spotFor h c (numberOf r)
   pub offer-uncounted : (h : Head) (x : Session) (c : List ℕ) (r : Reason) → verdictOf h x c ≡ NotTaken r → OneOf r (71 ∷ 43 ∷ [])
       → after h x c ≡ x
   pub offer-counted : (h : Head) (x : Session) (c : List ℕ) (r : Reason) → verdictOf h x c ≡ NotTaken r

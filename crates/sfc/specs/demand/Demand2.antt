@@ -13,7 +13,8 @@ use Rattle.sfc.specs.answer.Numbers.{Answered}
 use Rattle.sfc.specs.format.Limits.{wantedBlocks}
 use Rattle.sfc.specs.session.Lent.{shapeWrong, Lent}
 use Rattle.sfc.specs.format.Header.{readHeader, acceptedHeader}
-use Rattle.sfc.specs.format.Chunk.{payloadOf, checkChunk}
+use Rattle.sfc.specs.format.Chunk.{payloadOf}
+use Rattle.sfc.specs.format.Spot.{checkChunk}
 use Rattle.sfc.specs.answer.Places.{number, place}
 use Rattle.sfc.specs.session.Session.{Session, blank}
 use Rattle.sfc.specs.session.History.{afterAll, verdicts}

@@ -7,7 +7,8 @@ use mathlib.Core.List.{List, _++_}
 use lib.ListN.{length}
 use Rattle.sfc.specs.answer.Numbers.{verdict}
 use Rattle.sfc.specs.format.Header.{lengthField, readHeader}
-use Rattle.sfc.specs.format.Chunk.{indexOf, payloadOf, chunkLength, chunkChecks, checkChunk}
+use Rattle.sfc.specs.format.Chunk.{indexOf, payloadOf, chunkLength, chunkChecks}
+use Rattle.sfc.specs.format.Spot.{checkChunk}
 use Rattle.sfc.specs.session.Session.{Session, verdictOf, after, offered}
 use Rattle.sfc.specs.declared.format.header.Head.{Head}
 

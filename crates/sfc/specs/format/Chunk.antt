@@ -11,11 +11,8 @@ use Rattle.blake3.specs.Tree.{hash}
 use Rattle.sfc.specs.format.Bytes.{standsAt}
 use Rattle.little.specs.Runs.{zeros}
 use Rattle.sfc.specs.answer.Numbers.{Check, checked}
-use Rattle.sfc.specs.answer.Places.{number, place}
 use Rattle.sfc.specs.session.Lent.{shapeWrong}
 use Rattle.sfc.specs.declared.format.header.Head.{Head}
-use Rattle.sfc.specs.declared.format.chunk.ChunkChecked.{ChunkChecked}
-use Rattle.sfc.specs.declared.format.chunk.ChunkChecked.the-variants.{Whole, Refused}
 use Rattle.sfc.specs.declared.format.chunk.ChunkMeasured.{ChunkMeasured}
 use Rattle.sfc.specs.declared.format.chunk.ChunkMeasured.the-variants.{Length, Refused as NotMeasured}
 
@@ -85,10 +82,6 @@ measureChecks h b = (shapeWrong (h .size) (h .n) (h .m) (h .s), 71) ∷ lengthCh
 unfoldable pub measureChunk : Head → List ℕ → ChunkMeasured
 measureChunk h b = checked (measureChecks h b) NotMeasured (Length (chunkLength b))
 
--- of a chunk by itself; 43, 42 and 41 are a session's
+-- of a chunk by itself, whose answer is in Spot; 43, 42 and 41 are a session's
 abbrev pub aloneChecks : Head → List ℕ → List Check
 aloneChecks h c = (shapeWrong (h .size) (h .n) (h .m) (h .s), 71) ∷ chunkChecks h c
-
--- the chunk's index, and the place in the chunk where its payload begins
-unfoldable pub checkChunk : Head → List ℕ → ChunkChecked
-checkChunk h c = checked (aloneChecks h c) Refused (Whole (number (indexOf c)) (place 48))

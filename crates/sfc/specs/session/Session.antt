@@ -1,5 +1,5 @@
 -- The session: what an offer answers, and what it makes of store, marks and tallies (document 01, "Marks, hand-out,
--- prefix"). Assumes nothing: these are definitions.
+-- prefix"; document 02, [4]). Assumes nothing: these are definitions.
 use Prim.Native.Nat.{ℕ, _+_, _*_}
 use mathlib.Core.Bool.{Bool, cond, not, _&&_}
 use mathlib.Core.List.{List, [], _∷_, _++_}
@@ -10,10 +10,13 @@ use Rattle.little.specs.Runs.{zeros, same}
 use Rattle.sfc.specs.answer.Numbers.{Check, checked, numberOf}
 use Rattle.sfc.specs.session.Lent.{lentWrong}
 use Rattle.sfc.specs.format.Chunk.{indexOf, payloadOf, chunkChecks}
+use Rattle.sfc.specs.format.Spot.{spotFor}
 use Rattle.sfc.specs.answer.Places.{number, place}
 use Rattle.sfc.specs.session.Tallies.{noTallies, tallyFull, counted}
 use Rattle.sfc.specs.declared.format.header.Head.{Head}
 use Rattle.sfc.specs.declared.session.tallies.Tallies.{Tallies}
+use Rattle.sfc.specs.declared.answer.places.Spot.{Spot}
+use Rattle.sfc.specs.declared.answer.places.Spot.the-variants.{Nowhere}
 use Rattle.sfc.specs.declared.session.offer.Verdict.{Verdict}
 use Rattle.sfc.specs.declared.session.offer.Verdict.the-variants.{Fresh, Repeat, Refused}
 
@@ -28,7 +31,7 @@ sessionOf store marks tallies = record { store = store; marks = marks; tallies =
 
 -- as it starts
 abbrev pub blank : Head → Session
-blank h = record { store = zeros ((h .n + h .m) * h .s); marks = zeros (h .n + h .m); tallies = noTallies }
+blank h = sessionOf (zeros ((h .n + h .m) * h .s)) (zeros (h .n + h .m)) noTallies
 
 abbrev pub mark : Session → ℕ → ℕ
 mark x i = getD (x .marks) i 0
@@ -64,7 +67,7 @@ verdictOf h x c = checked (offerChecks h x c) Refused (welcomed h x c)
 
 -- a session with another block and mark at i
 abbrev pub withBlock : Head → Session → ℕ → List ℕ → ℕ → Session
-withBlock h x i b k = record { store = putBlock (h .s) (x .store) i b; marks = set (x .marks) i k; tallies = x .tallies }
+withBlock h x i b k = sessionOf (putBlock (h .s) (x .store) i b) (set (x .marks) i k) (x .tallies)
 
 -- what a verdict does to store and marks: a fresh payload is laid down and its index held; 41 bars the index and clears its
 -- block; nothing else changes anything
@@ -74,19 +77,29 @@ settled h x c (Repeat i p) = x
 settled h x c (Refused r) = cond (eqb (numberOf r) 41) (withBlock h x (indexOf c) (zeros (h .s)) 2) x
 
 abbrev pub tallied : Session → Verdict → Session
-tallied x v = record { store = x .store; marks = x .marks; tallies = counted (x .tallies) v }
+tallied x v = sessionOf (x .store) (x .marks) (counted (x .tallies) v)
 
--- the session after an offer
+-- the session after a verdict, and after an offer
+abbrev pub afterVerdict : Head → Session → List ℕ → Verdict → Session
+afterVerdict h x c v = tallied (settled h x c v) v
+
 unfoldable pub after : Head → Session → List ℕ → Session
-after h x c = tallied (settled h x c (verdictOf h x c)) (verdictOf h x c)
+after h x c = afterVerdict h x c (verdictOf h x c)
+
+-- where the chunk broke: what is fresh or a repeat broke nowhere
+unfoldable pub spotOf : Head → List ℕ → Verdict → Spot
+spotOf h c (Fresh i p) = Nowhere
+spotOf h c (Repeat i p) = Nowhere
+spotOf h c (Refused r) = spotFor h c (numberOf r)
 
 -- what an offer leaves and answers
 pub record Offered : Type 0 where
   pub session : Session
   pub verdict : Verdict
+  pub spot : Spot
 
-abbrev pub offeredOf : List ℕ → List ℕ → Tallies → Verdict → Offered
-offeredOf store marks tallies verdict = record { session = sessionOf store marks tallies; verdict = verdict }
+abbrev pub offeredOf : List ℕ → List ℕ → Tallies → Verdict → Spot → Offered
+offeredOf store marks tallies verdict spot = record { session = sessionOf store marks tallies; verdict = verdict; spot = spot }
 
 unfoldable pub offered : Head → Session → List ℕ → Offered
-offered h x c = record { session = after h x c; verdict = verdictOf h x c }
+offered h x c = record { session = after h x c; verdict = verdictOf h x c; spot = spotOf h c (verdictOf h x c) }

@@ -2,3 +2,9 @@
 pub struct BlockNumber(pub u32);
 
 pub struct BytePlace(pub u32);
+
+// Where an input broke, beside the number of its refusal; what was not refused broke nowhere.
+pub enum Spot {
+    At(BytePlace),
+    Nowhere,
+}

@@ -2,20 +2,20 @@
 use crate::answer::checks::refuse_if;
 use crate::answer::places::BlockNumber;
 use crate::answer::places::BytePlace;
+use crate::answer::places::Spot;
 use crate::answer::reason::Checked;
 use crate::answer::reason::Reason;
 use crate::format::header::Head;
 use crate::format::layout::*;
+use crate::format::spot::spot_for;
 use crate::format::text::stands_at;
 use crate::session::lent::is_shape_wrong;
 ghost use mathlib.Core.Path.{_≡_};
 ghost use Prim.Native.Nat.{_+_, _≤_};
 ghost use lib.ListN.{length};
 ghost use Rattle.sfc.specs.answer.Numbers.{verdict};
-ghost use Rattle.sfc.specs.format.Chunk.{indexOf, payloadLength, typeFor, lengthChecks, sealChecks, headChecks, chunkChecks, measureChunk, checkChunk};
-
-// Where the end marker stands, in a chunk without payload.
-const END_MARKER_AT: usize = CHUNK_OUTER - 4;
+ghost use Rattle.sfc.specs.format.Chunk.{indexOf, payloadLength, typeFor, lengthChecks, sealChecks, headChecks, chunkChecks, measureChunk};
+ghost use Rattle.sfc.specs.format.Spot.{checkChunk};
 
 // Where the payload begins, as an answer says it.
 const PAYLOAD_AT: u32 = CHUNK_HEADER as u32;
@@ -25,10 +25,10 @@ const DATA: u32 = 1;
 
 const RECOVERY: u32 = 2;
 
-// A whole chunk: its index, and the place in it where the payload begins.
+// A whole chunk: its index, and the place in it where the payload begins. A refused one: why, and where it broke.
 pub enum ChunkChecked {
     Whole(BlockNumber, BytePlace),
-    Refused(Reason),
+    Refused(Reason, Spot),
 }
 
 // How many bytes the chunk at the front takes up.
@@ -138,11 +138,11 @@ pub fn check_chunk(h: Head, c: &[u8]) -> ChunkChecked
     ensures { λ r. ⌜ r ≡ checkChunk h (now (c .entry)) ⌝ }
 {
     if is_shape_wrong(h.size, h.n, h.m, h.s) {
-        return ChunkChecked::Refused(Reason::Lent);
+        return ChunkChecked::Refused(Reason::Lent, Spot::Nowhere);
     }
     let verdict = check_all(h, c);
     match verdict {
-        Checked::Refused(reason) => ChunkChecked::Refused(reason),
+        Checked::Refused(reason) => ChunkChecked::Refused(reason, spot_for(h, c, reason)),
         Checked::Good => { ChunkChecked::Whole(BlockNumber(index_of(c)), BytePlace(PAYLOAD_AT)) }
     }
 }

@@ -79,6 +79,9 @@ pub(crate) const CHUNK_TRAILER: usize = 36;
 
 pub(crate) const CHUNK_OUTER: usize = CHUNK_HEADER + CHUNK_TRAILER;
 
+// Where the end marker stands, in a chunk without payload.
+pub(crate) const END_MARKER_AT: usize = CHUNK_OUTER - 4;
+
 // Places in a chunk's header.
 pub(crate) const CHUNK_UUID_AT: usize = 4;
 

@@ -1,12 +1,14 @@
 // The session: an offer of a chunk, and what it makes of store, marks and tallies.
 use crate::answer::places::BlockNumber;
 use crate::answer::places::BytePlace;
+use crate::answer::places::Spot;
 use crate::answer::reason::Checked;
 use crate::answer::reason::Reason;
 use crate::format::chunk::check_all;
 use crate::format::chunk::index_of;
 use crate::format::header::Head;
 use crate::format::layout::CHUNK_HEADER;
+use crate::format::spot::spot_for;
 use crate::session::lent::is_lent_wrong;
 use crate::session::marks::ABSENT;
 use crate::session::marks::BARRED;
@@ -20,8 +22,9 @@ ghost use mathlib.Core.Path.{_≡_};
 ghost use mathlib.Core.Bool.{true};
 ghost use Prim.Native.Nat.{_+_, _*_};
 ghost use lib.ListN.{length};
-ghost use Rattle.sfc.specs.session.Session.{Session, Offered, sessionOf, offeredOf, offered};
-ghost use Rattle.sfc.specs.inner.Steps.{Stepped, stepped, Welcome};
+ghost use Rattle.sfc.specs.session.Session.{Session, Offered, sessionOf, spotOf, offeredOf, offered};
+ghost use Rattle.sfc.specs.inner.Steps.{Stepped, stepped, Welcome, Judged, judgedOf, judged};
+ghost use Rattle.sfc.specs.inner.Spots.{Fitting};
 
 // What an offer came to: the block, and its place in the store; or the reason of a refusal.
 pub enum Verdict {
@@ -30,9 +33,17 @@ pub enum Verdict {
     Refused(Reason),
 }
 
+// The verdict, the tallies after it, and where a refused chunk broke.
 pub struct OfferAnswer {
     pub verdict: Verdict,
     pub tallies: Tallies,
+    pub spot: Spot,
+}
+
+// An answer before the place is found.
+struct Judgement {
+    verdict: Verdict,
+    tallies: Tallies,
 }
 
 // What a payload met at its block.
@@ -62,10 +73,10 @@ fn offer_block(block: &mut [u8], mark: u8, payload: &[u8]) -> Step
     Step::Barred
 }
 
-fn refused(reason: Reason, tallies: Tallies) -> OfferAnswer
+fn refused(reason: Reason, tallies: Tallies) -> Judgement
     ensures { λ r. ⌜ r ≡ record { verdict = Verdict.Refused reason; tallies = tallies } ⌝ }
 {
-    OfferAnswer {
+    Judgement {
         verdict: Verdict::Refused(reason),
         tallies,
     }
@@ -78,9 +89,9 @@ fn offer_whole(
     store: &mut [u8],
     marks: &mut [u8],
     chunk: &[u8],
-) -> OfferAnswer
+) -> Judgement
     requires { ⌜ Welcome h (sessionOf (now store) (now marks) tallies) (now chunk) ⌝ }
-    ensures { λ r. ⌜ offeredOf (now (store .exit)) (now (marks .exit)) (r .tallies) (r .verdict) ≡ offered h (sessionOf (now (store .entry)) (now (marks .entry)) tallies) (now (chunk .entry)) ⌝ }
+    ensures { λ r. ⌜ judgedOf (now (store .exit)) (now (marks .exit)) (r .tallies) (r .verdict) ≡ judged h (sessionOf (now (store .entry)) (now (marks .entry)) tallies) (now (chunk .entry)) ⌝ }
 {
     let index = index_of(chunk);
     let i = index as usize;
@@ -93,12 +104,12 @@ fn offer_whole(
     match step {
         Step::Laid => {
             marks[i] = HELD;
-            OfferAnswer {
+            Judgement {
                 verdict: Verdict::Fresh(BlockNumber(index), BytePlace(place)),
                 tallies: with_fresh(tallies),
             }
         }
-        Step::Copy => OfferAnswer {
+        Step::Copy => Judgement {
             verdict: Verdict::Repeat(BlockNumber(index), BytePlace(place)),
             tallies: with_repeat(tallies),
         },
@@ -110,15 +121,15 @@ fn offer_whole(
     }
 }
 
-// Any bytes may be offered as a chunk. Store and marks change only with a fresh chunk, and with a copy that differs.
-pub fn offer(
+// 71, 43, the checks of the chunk, and then its block.
+fn offer_chunk(
     h: Head,
     tallies: Tallies,
     store: &mut [u8],
     marks: &mut [u8],
     chunk: &[u8],
-) -> OfferAnswer
-    ensures { λ r. ⌜ offeredOf (now (store .exit)) (now (marks .exit)) (r .tallies) (r .verdict) ≡ offered h (sessionOf (now (store .entry)) (now (marks .entry)) tallies) (now (chunk .entry)) ⌝ }
+) -> Judgement
+    ensures { λ r. ⌜ judgedOf (now (store .exit)) (now (marks .exit)) (r .tallies) (r .verdict) ≡ judged h (sessionOf (now (store .entry)) (now (marks .entry)) tallies) (now (chunk .entry)) ⌝ }
 {
     if is_lent_wrong(h.size, h.n, h.m, h.s, store, marks) {
         return refused(Reason::Lent, tallies);
@@ -130,5 +141,37 @@ pub fn offer(
     match checked {
         Checked::Refused(reason) => refused(reason, with_refusal(tallies, reason)),
         Checked::Good => offer_whole(h, tallies, store, marks, chunk),
+    }
+}
+
+// What was refused broke at the place of its number.
+fn spot_of(h: Head, chunk: &[u8], verdict: Verdict) -> Spot
+    requires { ⌜ Fitting (now chunk) verdict ⌝ }
+    ensures { λ r. ⌜ r ≡ spotOf h (now (chunk .entry)) verdict ⌝ }
+{
+    match verdict {
+        Verdict::Fresh(_, _) => Spot::Nowhere,
+        Verdict::Repeat(_, _) => Spot::Nowhere,
+        Verdict::Refused(reason) => spot_for(h, chunk, reason),
+    }
+}
+
+// Any bytes may be offered as a chunk. Store and marks change only with a fresh chunk, and with a copy that differs.
+pub fn offer(
+    h: Head,
+    tallies: Tallies,
+    store: &mut [u8],
+    marks: &mut [u8],
+    chunk: &[u8],
+) -> OfferAnswer
+    ensures { λ r. ⌜ offeredOf (now (store .exit)) (now (marks .exit)) (r .tallies) (r .verdict) (r .spot) ≡ offered h (sessionOf (now (store .entry)) (now (marks .entry)) tallies) (now (chunk .entry)) ⌝ }
+{
+    let judgement = offer_chunk(h, tallies, store, marks, chunk);
+    let verdict = judgement.verdict;
+    let counted = judgement.tallies;
+    OfferAnswer {
+        verdict,
+        tallies: counted,
+        spot: spot_of(h, chunk, verdict),
     }
 }

@@ -1,58 +1,19 @@
--- `sfc::session::offer::offer` meets its contract: 71, 43, the checks of the chunk, and then its block. Assumes nothing.
-use mathlib.Core.Path.{sym, _∙_}
-use native.Mathlib.Omega.{arith}
-use Rattle.sfc.proofs.session.TallyLaws.{room-left}
-use Rattle.sfc.proofs.session.SessionLaws.{lent-refused, full-refused, chunk-number, chunk-refused}
+-- `sfc::session::offer::offer` meets its contract: the place is found after the verdict, and fits. Assumes nothing.
+use Rattle.sfc.specs.session.Session.{sessionOf}
+use Rattle.sfc.proofs.session.BreakLaws.{verdict-judged, offered-judged, offer-fits}
 use borrow.Author.Needs.{needs}
 use Rattle.sfc.proofs.session.offer.offer.Statement.{statement}
 use Rattle.sfc.proofs.session.offer.offer.Tie as tie
 
+spot-of-requires : tie.Need-spot-of-requires
+spot-of-requires c κs =
+    let a = c .before .before .before .before .before .before .before .before .before .before .before .args in
+    offer-fits (a .h) (sessionOf (a .store .now) (a .marks .now) (a .tallies)) (a .chunk .now) _ (verdict-judged (a .h) (sessionOf (a .store .now) (a .marks .now) (a .tallies)) (a .chunk .now) _ (c .before .before .before .before .before .offer-chunk .ensures))
+
 returns : tie.Need-returns
-returns c = let s = c .before .before .before .before .before .before .before .before in rw (c .refused .ensures) (lent-refused (s .args .h) (record { store = s .args .store .now; marks = s .args .marks .now; tallies = s .args .tallies }) (s .args .chunk .now) (sym (c .before .before .is-lent-wrong .ensures) ∙ c .before .if1 .taken))
-
-returns-2 : tie.Need-returns-2
-returns-2 c = let s = c .before .before .before .before .before .before .before .before .before .before in rw (c .refused2 .ensures) (full-refused (s .args .h) (record { store = s .args .store .now; marks = s .args .marks .now; tallies = s .args .tallies }) (s .args .chunk .now) (sym (c .before .before .before .before .is-lent-wrong .ensures) ∙ c .before .before .before .if1 .left) (sym (c .before .before .is-full .ensures) ∙ c .before .if2 .taken))
-
-with-refusal-requires : tie.Need-with-refusal-requires
-with-refusal-requires c κs =
-    let s = c .before .before .before .before .before .before .before .before .before .before .before .before .before in
-    let k = chunk-number (s .args .h) (record { store = s .args .store .now; marks = s .args .marks .now; tallies = s .args .tallies }) (s .args .chunk .now) _ (sym (c .before .before .before .check-all .ensures) ∙ c .before .checked .given .1) in
-    (room-left (s .args .tallies) (sym (c .before .before .before .before .before .is-full .ensures) ∙ c .before .before .before .before .if2 .left), k .0, omega arith)
-
-offer-whole-requires : tie.Need-offer-whole-requires
-offer-whole-requires c κs =
-    let s = c .before .before .before .before .before .before .before .before .before .before .before .before .before .before in
-    record { lent = (sym (c .before .before .before .before .before .before .before .before .is-lent-wrong .ensures) ∙ c .before .before .before .before .before .before .before .if1 .left); room = (sym (c .before .before .before .before .before .before .is-full .ensures) ∙ c .before .before .before .before .before .if2 .left); whole = sym (c .before .before .before .before .check-all .ensures) ∙ c .before .before .enum-told .given .1 }
-
-returns-3 : tie.Need-returns-3
-returns-3 c =
-    let s = c .before .before .before .before .before .before .before .before .before .before .before .before .before .before .before in
-    rw (c .refused3 .ensures)
-    (chunk-refused (s .args .h) (record { store = s .args .store .now; marks = s .args .marks .now; tallies = s .args .tallies }) (s .args .chunk .now) (sym (c .before .before .before .before .before .before .before .before .before .is-lent-wrong .ensures) ∙ c .before .before .before .before .before .before .before .before .if1 .left) (sym (c .before .before .before .before .before .before .before .is-full .ensures) ∙ c .before .before .before .before .before .before .if2 .left) _ (sym (c .before .before .before .before .before .check-all .ensures) ∙ c .before .before .before .checked .given .1) _ (c .before .with-refusal .ensures))
+returns c =
+    let a = c .before .before .before .before .before .before .before .before .before .before .before .before .args in
+    offered-judged (a .h) (sessionOf (a .store .now) (a .marks .now) (a .tallies)) (a .chunk .now) _ (c .before .before .before .before .before .before .offer-chunk .ensures) _ (c .spot-of .ensures)
 
 pub offer-spec : {M : Type 1} → statement M
-offer-spec =
-    tie.close
-    (tie.spec
-    (λ c κs. search needs)
-    (λ c κs. search needs)
-    (λ c. search needs)
-    (λ c. search needs)
-    returns
-    (λ c κs. search needs)
-    (λ c κs. search needs)
-    (λ c. search needs)
-    (λ c. search needs)
-    returns-2
-    (λ c κs. search needs)
-    (λ c. search needs)
-    with-refusal-requires
-    (λ c κs. search needs)
-    (λ c. search needs)
-    offer-whole-requires
-    (λ c. search needs)
-    (λ c. search needs)
-    returns-3
-    (λ c. search needs)
-    (λ c. search needs)
-    (λ c. search needs))
+offer-spec = tie.close (tie.spec (λ c κs. search needs) spot-of-requires (λ c. search needs) (λ c. search needs) returns)
