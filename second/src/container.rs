@@ -183,36 +183,83 @@ fn check_trailer(region: &[u8], trailer: &[u8]) -> Result<(), u8> {
     must(hashed == hash(region), 23)
 }
 
+/// Why a chunk is refused: the number, and the place of the byte where the chunk broke, counted from its first.
+#[derive(Clone, Copy, PartialEq, Debug)]
+pub struct Refusal {
+    pub number: u8,
+    pub place: Option<usize>,
+}
+
+impl Refusal {
+    pub fn at(number: u8, place: usize) -> Refusal {
+        Refusal { number, place: Some(place) }
+    }
+
+    /// What is wrong is in no byte of the chunk.
+    pub fn nowhere(number: u8) -> Refusal {
+        Refusal { number, place: None }
+    }
+}
+
+/// Some bytes of a chunk, and the place where they begin.
+struct Field<'a> {
+    bytes: &'a [u8],
+    place: usize,
+}
+
+impl Field<'_> {
+    fn number(&self) -> u64 {
+        Rest(self.bytes).number(self.bytes.len() as u64).expect("a field is there as a whole")
+    }
+
+    /// Of a range no byte is the wrong one, so the refusal is at the front of the field.
+    fn must(&self, fact: bool, number: u8) -> Result<(), Refusal> {
+        fact.then_some(()).ok_or(Refusal::at(number, self.place))
+    }
+
+    /// Of bytes that can be right in one way only, the refusal is at the first that is not.
+    fn must_be(&self, right: &[u8], number: u8) -> Result<(), Refusal> {
+        match self.bytes.iter().zip(right).position(|(byte, right)| byte != right) {
+            Some(count) => Err(Refusal::at(number, self.place + count)),
+            None => Ok(()),
+        }
+    }
+}
+
+/// Where the index stands in a chunk.
+pub const INDEX_PLACE: usize = 20;
+
 /// The index and the payload of a whole chunk; bytes after it are not looked at.
-pub fn check_chunk<'a>(head: &Head, input: &'a [u8]) -> Result<(u64, &'a [u8]), u8> {
-    must(is_shape_lawful(head), 71)?;
+pub fn check_chunk<'a>(head: &Head, input: &'a [u8]) -> Result<(u64, &'a [u8]), Refusal> {
+    must(is_shape_lawful(head), 71).map_err(Refusal::nowhere)?;
     let mut rest = Rest(input);
-    let mut header = Rest(rest.bytes(48).ok_or(30)?);
-    let mut next = |width| header.bytes(width).expect("a chunk's header has 48 bytes");
-    let number = |bytes| Rest(bytes).number(bytes.len() as u64).unwrap();
-    let (magic, uuid, index, kind, length) = (next(4), next(16), number(next(4)), number(next(4)), number(next(4)));
-    let (compression, erasure, reserved) = (number(next(1)), number(next(1)), next(14));
-    must(magic == [0x43, 0x48, 0x4B, 0x00], 31)?;
-    must(length <= 2 * head.s, 32)?;
-    let payload = rest.bytes(length).ok_or(30)?;
-    let mut trailer = Rest(rest.bytes(36).ok_or(30)?);
-    let covered = &input[..48 + payload.len()];
-    must(trailer.bytes(32) == Some(&hash(covered)), 33)?;
-    must(trailer.bytes(4) == Some(b"/CHK"), 34)?;
-    must(uuid == head.uuid, 35)?;
-    must(index < head.n + head.m, 36)?;
-    let suited = if index < head.n { 1 } else { 2 };
-    must(kind == suited, 37)?;
-    must(reserved == [0; 14], 38)?;
-    must((compression, erasure) == (head.compression, head.erasure), 39)?;
-    must(length == head.s, 40)?;
-    Ok((index, payload))
+    let mut next = |width| {
+        let place = input.len() - rest.0.len();
+        let bytes = rest.bytes(width).ok_or(Refusal::at(30, input.len()))?;
+        Ok(Field { bytes, place })
+    };
+    // all of the chunk's header must be there before a field of it is judged
+    let (magic, uuid, index, kind, length) = (next(4)?, next(16)?, next(4)?, next(4)?, next(4)?);
+    let (identifiers, reserved) = (next(2)?, next(14)?);
+    magic.must_be(&[0x43, 0x48, 0x4B, 0x00], 31)?;
+    length.must(length.number() <= 2 * head.s, 32)?;
+    let (payload, sealed, marker) = (next(length.number())?, next(32)?, next(4)?);
+    sealed.must(sealed.bytes == hash(&input[..sealed.place]), 33)?;
+    marker.must_be(b"/CHK", 34)?;
+    uuid.must_be(&head.uuid, 35)?;
+    index.must(index.number() < head.n + head.m, 36)?;
+    let suited: u32 = if index.number() < head.n { 1 } else { 2 };
+    kind.must_be(&suited.to_le_bytes(), 37)?;
+    reserved.must_be(&[0; 14], 38)?;
+    identifiers.must_be(&[head.compression as u8, head.erasure as u8], 39)?;
+    length.must_be(&(head.s as u32).to_le_bytes(), 40)?;
+    Ok((index.number(), payload.bytes))
 }
 
 /// How many bytes the chunk at the front takes up, whatever else is wrong with it.
-pub fn measure_chunk(head: &Head, input: &[u8]) -> Result<usize, u8> {
+pub fn measure_chunk(head: &Head, input: &[u8]) -> Result<usize, Refusal> {
     match check_chunk(head, input) {
-        Err(number @ (71 | 30..=32)) => Err(number),
+        Err(refusal) if matches!(refusal.number, 71 | 30..=32) => Err(refusal),
         _ => Ok(84 + input[28..32].iter().rev().fold(0, |high, &byte| high << 8 | usize::from(byte))),
     }
 }

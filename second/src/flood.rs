@@ -153,7 +153,7 @@ impl Base {
         if chance.below(5) == 0 {
             self.spoil_header(script, chance);
         }
-        script.frame(LISTING, 0, 32_768, 0);
+        script.frame(LISTING, 0, LEAST_OUTPUT, 0);
         script.read();
         let (s, m) = (self.plan.s as usize, self.plan.m as usize);
         let count = self.plan.data_count() + m;

@@ -1,6 +1,6 @@
 //! The listing of a file, as the program sfc_list prints it.
 use crate::blake3::hex;
-use crate::container::{must, read_header};
+use crate::container::{measure_chunk, must, read_header, Head, Refusal};
 use crate::hand_out::{Lent, Scratch};
 use crate::note::{counts, missing, ranges};
 use crate::session::Session;
@@ -11,20 +11,38 @@ use std::io::{Read, Write};
 const FILE: usize = 65_536;
 const STORE: u64 = 32_768;
 
+/// Offers the chunks of a file, and gives a line for each refusal as it is met. What is left before the trailer was to be a
+/// chunk as well: its refusal ended the walk, and is told last.
+fn offer_all(session: &mut Session, head: &Head, file: &[u8]) -> Vec<String> {
+    let start = 12 + head.header_length as usize;
+    let chunks = &file[start..file.len() - 64];
+    let mut lines = Vec::new();
+    let mut tell = |chunk_start: usize, refusal: Refusal| {
+        let place = refusal.place.expect("neither 43 nor 71 can come of a listing's own session");
+        lines.push(format!("refused {} {}", refusal.number, start + chunk_start + place));
+    };
+    let end = session.offer_chunks(head, chunks, &mut tell);
+    if end < chunks.len() {
+        tell(end, measure_chunk(head, &chunks[end..]).expect_err("the walk went as far as there are chunks"));
+    }
+    lines
+}
+
 fn lines(file: &[u8]) -> Result<Vec<String>, u8> {
     must(file.len() <= FILE, 15)?;
     let head = read_header(file)?;
     let blocks = (head.n + head.m) as usize;
     must(blocks as u64 * head.s <= STORE, 15)?;
     let mut session = Session::new(&head, vec![0; blocks * head.s as usize], vec![0; blocks]);
-    session.offer_chunks(&head, &file[12 + head.header_length as usize..file.len() - 64]);
+    let refusals = offer_all(&mut session, &head, file);
     let (store, marks) = (session.store(), session.marks());
     let (held, barred) = counts(&head, &marks)?;
     let mut lines = vec![
         format!("sfc uuid={}", hex(&head.uuid)),
         format!("blocks={} recovery={} size={} block={}", head.n, head.m, head.size, head.s),
-        format!("held={held} barred={barred}"),
     ];
+    lines.extend(refusals);
+    lines.push(format!("held={held} barred={barred}"));
     lines.extend(ranges(&missing(&head, &marks)?).iter().map(|(first, last)| format!("missing {first}-{last}")));
     let mut scratch = Scratch { bytes: vec![0; (head.m * head.s) as usize], numbers: vec![0; 1024] };
     let given = Lent { head: &head, store: &store, marks: &marks }.hand_out(&mut scratch, head.size as usize);

@@ -4,11 +4,12 @@ mod listings;
 mod writes;
 
 use crate::blake3::{hash, hex};
-use crate::container::{check_chunk, find_field, measure_chunk, read_header, Head};
+use crate::container::{check_chunk, find_field, measure_chunk, read_header, Head, Refusal};
 use crate::note::{counts, missing, note, prefix, ranges, read_note};
 use crate::session::Session;
 use hand_outs::Call;
 pub use listings::{LEAST_OUTPUT, OTHER_LENGTH};
+use std::fmt::Display;
 use std::io::Read;
 
 pub const SAY: u8 = 1;
@@ -124,7 +125,7 @@ fn print_head(head: &Head) {
 }
 
 /// Prints neighbours with the same answer as one line; 0 stands for an accepted input.
-fn print_runs(first: usize, answers: &[u8]) {
+fn print_runs<T: PartialEq + Display>(first: usize, answers: &[T]) {
     let mut place = first;
     for run in answers.chunk_by(|left, right| left == right) {
         println!("{}..{} {}", place, place + run.len(), run[0]);
@@ -136,23 +137,38 @@ fn header_answer(file: &[u8]) -> u8 {
     read_header(file).err().unwrap_or(0)
 }
 
-fn chunk_answer(head: &Head, chunk: &[u8]) -> u8 {
-    check_chunk(head, chunk).err().unwrap_or(0)
+/// Where a chunk broke.
+fn spot(place: Option<usize>) -> String {
+    place.map_or("nowhere".to_string(), |place| format!("at {place}"))
+}
+
+fn refused(refusal: Refusal) -> String {
+    format!("{} {}", refusal.number, spot(refusal.place))
+}
+
+/// A refusal in a sweep over places, which is `here` where it has the place that the sweep has come to: so neighbours that
+/// are each refused at their own place make one run.
+fn chunk_answer(head: &Head, chunk: &[u8], here: usize) -> String {
+    match check_chunk(head, chunk) {
+        Ok(_) => "0".to_string(),
+        Err(refusal) if refusal.place == Some(here) => format!("{} here", refusal.number),
+        Err(refusal) => refused(refusal),
+    }
 }
 
 /// The answers for each place, with that byte of the text changed and the text then sealed.
-fn damaged(
+fn damaged<T>(
     text: &[u8],
     places: std::ops::Range<usize>,
     mask: u8,
     seal: fn(&mut [u8]),
-    answer: impl Fn(&[u8]) -> u8,
-) -> Vec<u8> {
+    answer: impl Fn(&[u8], usize) -> T,
+) -> Vec<T> {
     let answer_at = |place: usize| {
         let mut changed = text.to_vec();
         changed[place] ^= mask;
         seal(&mut changed);
-        answer(&changed)
+        answer(&changed, place)
     };
     places.map(answer_at).collect()
 }
@@ -214,12 +230,12 @@ struct Probe {
 impl Probe {
     fn sweep_header(&self, from: usize, to: usize, mask: u8, seal: fn(&mut [u8])) {
         let places = from..to.min(self.file.len());
-        print_runs(from, &damaged(&self.file, places, mask, seal, header_answer));
+        print_runs(from, &damaged(&self.file, places, mask, seal, |changed, _| header_answer(changed)));
     }
 
     fn sweep_chunk(&self, part: std::ops::Range<usize>, mask: u8, seal: fn(&mut [u8])) {
         let chunk = &self.file[part];
-        let answer = |changed: &[u8]| chunk_answer(&self.head, changed);
+        let answer = |changed: &[u8], place| chunk_answer(&self.head, changed, place);
         print_runs(0, &damaged(chunk, 0..chunk.len(), mask, seal, answer));
     }
 
@@ -272,19 +288,19 @@ impl Probe {
         match check_chunk(&self.head, &self.file[part]) {
             // the payload comes after the header of 48 bytes
             Ok((index, _)) => println!("whole {index} 48"),
-            Err(number) => println!("{number}"),
+            Err(refusal) => println!("{}", refused(refusal)),
         }
     }
 
     fn measure(&self, part: std::ops::Range<usize>) {
         match measure_chunk(&self.head, &self.file[part]) {
             Ok(length) => println!("length {length}"),
-            Err(number) => println!("{number}"),
+            Err(refusal) => println!("{}", refusal.number),
         }
     }
 
     fn offer_chunks(&mut self, part: std::ops::Range<usize>) {
-        println!("walked {}", self.session.offer_chunks(&self.head, &self.file[part]));
+        println!("walked {}", self.session.offer_chunks(&self.head, &self.file[part], |_, _| {}));
         self.show();
     }
 
@@ -292,9 +308,9 @@ impl Probe {
         match self.session.offer(&self.head, &self.file[part]) {
             Ok(offered) => {
                 let word = if offered.fresh { "fresh" } else { "repeat" };
-                println!("{word} {} {}", offered.index, offered.index * self.head.s);
+                println!("{word} {} {} {}", offered.index, offered.index * self.head.s, spot(None));
             }
-            Err(number) => println!("{number}"),
+            Err(refusal) => println!("{}", refused(refusal)),
         }
     }
 
@@ -452,8 +468,8 @@ impl Probe {
             CHUNK_BYTES_SEALED => self.sweep_chunk(part, small, seal_chunk),
             CHUNK_LENGTHS => {
                 let chunk = &self.file[part];
-                let answers: Vec<u8> =
-                    (0..chunk.len()).map(|length| chunk_answer(&self.head, &chunk[..length])).collect();
+                let answers: Vec<String> =
+                    (0..chunk.len()).map(|length| chunk_answer(&self.head, &chunk[..length], length)).collect();
                 print_runs(0, &answers);
             }
             _ => {}

@@ -1,5 +1,5 @@
 //! A session as what each index has met: no payload, one, or payloads that differ.
-use crate::container::{check_chunk, measure_chunk, Head};
+use crate::container::{check_chunk, measure_chunk, Head, Refusal, INDEX_PLACE};
 use crate::note::is_lent_right;
 use std::collections::{BTreeMap, BTreeSet};
 
@@ -37,46 +37,47 @@ impl Session {
         Session { lent_store, lent_marks, met, tallies: [0; 15] }
     }
 
-    pub fn offer(&mut self, head: &Head, chunk: &[u8]) -> Result<Offered, u8> {
+    pub fn offer(&mut self, head: &Head, chunk: &[u8]) -> Result<Offered, Refusal> {
         if !is_lent_right(head, &self.lent_store, &self.lent_marks) {
-            return Err(71);
+            return Err(Refusal::nowhere(71));
         }
         if self.tallies.iter().sum::<u64>() >= FULL {
-            return Err(43);
+            return Err(Refusal::nowhere(43));
         }
         let verdict = self.meet(head, chunk);
         let tally = match &verdict {
             Ok(offered) => usize::from(!offered.fresh),
-            Err(number) => usize::from(number - 28),
+            Err(refusal) => usize::from(refusal.number - 28),
         };
         self.tallies[tally] += 1;
         verdict
     }
 
     /// Offers the chunks of some bytes one after the other, and gives the place of the first byte that belongs to none.
-    pub fn offer_chunks(&mut self, head: &Head, bytes: &[u8]) -> usize {
-        let mut rest = bytes;
-        while let Ok(length) = measure_chunk(head, rest) {
-            let (chunk, after) = rest.split_at(length);
-            // its verdict is in the tallies, and ends nothing
-            let _ = self.offer(head, chunk);
-            rest = after;
+    /// Each refusal is told with the place where its chunk begins, and ends nothing.
+    pub fn offer_chunks(&mut self, head: &Head, bytes: &[u8], mut tell: impl FnMut(usize, Refusal)) -> usize {
+        let mut start = 0;
+        while let Ok(length) = measure_chunk(head, &bytes[start..]) {
+            if let Err(refusal) = self.offer(head, &bytes[start..start + length]) {
+                tell(start, refusal);
+            }
+            start += length;
         }
-        bytes.len() - rest.len()
+        start
     }
 
-    fn meet(&mut self, head: &Head, chunk: &[u8]) -> Result<Offered, u8> {
+    fn meet(&mut self, head: &Head, chunk: &[u8]) -> Result<Offered, Refusal> {
         let (index, payload) = check_chunk(head, chunk)?;
         let payloads = self.met.entry(index).or_default();
         if payloads.len() > 1 {
-            return Err(42);
+            return Err(Refusal::at(42, INDEX_PLACE));
         }
         let fresh = payloads.is_empty();
         let new = payloads.insert(payload.to_vec());
         if new && !fresh {
             let at = index as usize * payload.len();
             self.lent_store[at..at + payload.len()].fill(0);
-            return Err(41);
+            return Err(Refusal::at(41, INDEX_PLACE));
         }
         Ok(Offered { fresh, index })
     }

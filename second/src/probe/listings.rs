@@ -9,7 +9,7 @@ const DESK: [usize; 6] = [32_768, 1_056, 32_768, 1_024, 32_768, 1_024];
 /// The small number of a frame that gives the file another length.
 pub const OTHER_LENGTH: u8 = 7;
 /// The least output that is taken.
-pub const LEAST_OUTPUT: usize = 32_768;
+pub const LEAST_OUTPUT: usize = 65_536;
 
 impl Probe {
     /// The file, with zeros after its end, or its front, where another length is asked for.
@@ -27,7 +27,7 @@ impl Probe {
         if let Some(other) = desk.get_mut(usize::from(piece).wrapping_sub(1)) {
             other.resize(length.min(other.len() + 1), PATTERN);
         }
-        let room = room.min(ROOM);
+        let room = room.min(LEAST_OUTPUT + 1);
         let is_desk_right = desk.iter().map(Vec::len).eq(DESK);
         let allowed = must(is_desk_right, 71).and_then(|()| must(LEAST_OUTPUT <= room, 52));
         if allowed.is_ok() {
