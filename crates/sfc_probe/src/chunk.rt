@@ -3,6 +3,7 @@ use crate::edit;
 use crate::frame;
 use crate::frame::Frame;
 use crate::print;
+use crate::run;
 use crate::run::Run;
 use sfc::ChunkChecked;
 use sfc::ChunkMeasured;
@@ -11,19 +12,33 @@ use sfc::check_chunk;
 use sfc::measure_chunk;
 use sfc::number_of;
 
-// The number of the refusal, and 0 for a whole chunk.
-fn answer(head: Head, chunk: &[u8]) -> u8 {
+// What a sweep finds: the number of the refusal and the word for its place, and 0 alone for a whole chunk.
+struct Answer {
+    number: u8,
+    word: u64,
+}
+
+fn answer(head: Head, chunk: &[u8], here: usize) -> Answer {
     let checked = check_chunk(head, chunk);
     match checked {
-        ChunkChecked::Refused(reason) => number_of(reason),
-        ChunkChecked::Whole(_, _) => 0,
+        ChunkChecked::Refused(reason, spot) => Answer {
+            number: number_of(reason),
+            word: run::word_for(spot, here as u64),
+        },
+        ChunkChecked::Whole(_, _) => Answer {
+            number: 0,
+            word: run::ALONE,
+        },
     }
 }
 
 fn check(head: Head, chunk: &[u8]) {
     let checked = check_chunk(head, chunk);
     match checked {
-        ChunkChecked::Refused(reason) => print::decimal(number_of(reason) as u64),
+        ChunkChecked::Refused(reason, spot) => {
+            print::decimal(number_of(reason) as u64);
+            print::spot(spot);
+        }
         ChunkChecked::Whole(index, place) => {
             print::field(b"whole ", index.0 as u64);
             print::field(b" ", place.0 as u64);
@@ -42,14 +57,14 @@ fn measure(head: Head, chunk: &[u8]) {
 }
 
 // The answer with one byte changed, and the chunk sealed if that is asked for.
-fn changed_answer(head: Head, chunk: &mut [u8], at: usize, mask: u8, sealed: bool) -> u8 {
+fn changed_answer(head: Head, chunk: &mut [u8], at: usize, mask: u8, sealed: bool) -> Answer {
     let old = little::byte_at(chunk, at);
     edit::set_byte(chunk, at, old ^ mask);
     if !sealed {
-        return answer(head, chunk);
+        return answer(head, chunk, at);
     }
     edit::seal_chunk(chunk);
-    answer(head, chunk)
+    answer(head, chunk, at)
 }
 
 fn sweep_bytes(head: Head, chunk: &mut [u8], mask: u8, sealed: bool) {
@@ -61,23 +76,24 @@ fn sweep_bytes(head: Head, chunk: &mut [u8], mask: u8, sealed: bool) {
     while at < end {
         let answer = changed_answer(head, chunk, at, mask, sealed);
         edit::copy(&before, chunk);
-        let next = run.take(at as u64, answer);
+        let next = run.take_word(at as u64, answer.number, answer.word);
         run = next;
         at += 1;
     }
     run.end(end as u64);
 }
 
-fn prefix_answer(head: Head, chunk: &[u8], length: usize) -> u8 {
+fn prefix_answer(head: Head, chunk: &[u8], length: usize) -> Answer {
     let end = little::within8(length, chunk);
-    answer(head, &chunk[..end])
+    answer(head, &chunk[..end], length)
 }
 
 fn sweep_lengths(head: Head, chunk: &[u8]) {
     let mut run = Run::new();
     let mut length = 0;
     while length < chunk.len() {
-        let next = run.take(length as u64, prefix_answer(head, chunk, length));
+        let answer = prefix_answer(head, chunk, length);
+        let next = run.take_word(length as u64, answer.number, answer.word);
         run = next;
         length += 1;
     }

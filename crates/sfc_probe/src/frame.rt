@@ -52,7 +52,7 @@ pub(crate) const LONG_HEADER: u8 = 36;
 // The b bytes at a are checked as a chunk.
 pub(crate) const CHECK_CHUNK: u8 = 40;
 // The same for each place in them, with that byte changed; the same with the chunk sealed after the change; the same for
-// each shorter length.
+// each shorter length. Where the chunk broke is "here" if it is the changed place, or the length.
 pub(crate) const CHUNK_BYTES: u8 = 41;
 
 pub(crate) const CHUNK_BYTES_SEALED: u8 = 42;

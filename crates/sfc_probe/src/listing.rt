@@ -46,8 +46,8 @@ fn bounds_room() -> [u32; 1025] {
     [0xA5A5A5A5u32; 1025]
 }
 
-fn out_room() -> [u8; 65536] {
-    [0xA5u8; 65536]
+fn out_room() -> [u8; 65537] {
+    [0xA5u8; 65537]
 }
 
 fn file_room() -> [u8; 65537] {

@@ -1,5 +1,6 @@
 // What the answers are printed with.
 use libc::STDOUT_FILENO;
+use sfc::Spot;
 use sfc::Written;
 use sfc::number_of;
 
@@ -57,6 +58,14 @@ pub(crate) fn numbers(numbers: &[u32]) {
 pub(crate) fn field(label: &[u8], n: u64) {
     text(label);
     decimal(n);
+}
+
+// Where a chunk broke.
+pub(crate) fn spot(spot: Spot) {
+    match spot {
+        Spot::At(place) => field(b" at ", place.0 as u64),
+        Spot::Nowhere => text(b" nowhere"),
+    }
 }
 
 // A label and how many bytes were written, or the refusal's number. The answer is how many, and 0 with a refusal.

@@ -102,10 +102,9 @@ fn print_verdict(verdict: Verdict) {
         }
         Verdict::Refused(reason) => print::decimal(number_of(reason) as u64),
     }
-    print::line_end();
 }
 
-// Offers, prints the verdict, and answers the new tallies.
+// Offers, prints the verdict and the spot, and answers the new tallies.
 fn offer_chunk(
     head: Head,
     tallies: Tallies,
@@ -115,7 +114,10 @@ fn offer_chunk(
 ) -> Tallies {
     let answer = offer(head, tallies, store, marks, chunk);
     let verdict = answer.verdict;
+    let spot = answer.spot;
     print_verdict(verdict);
+    print::spot(spot);
+    print::line_end();
     answer.tallies
 }
 
