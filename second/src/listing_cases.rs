@@ -1,8 +1,9 @@
-//! The files beside document 01's example that sfc_list is run on, by name: one for each way that a listing can end, one for
-//! each number and each of the program's limits that it refuses by, and the longest file that it takes.
+//! The files beside document 01's example that sfc_list is run on, by name: one for each way that a listing can end, one whose
+//! chunks are read as far as a break and one with a chunk for each refusal, one for each number and each of the program's limits
+//! that it refuses by, and the longest file that it takes.
 use crate::probe::file_left;
-use crate::probe_cases::{conflicting_chunks, headers};
-use crate::script::{plan, Script};
+use crate::probe_cases::{conflicting_chunks, headers, listings};
+use crate::script::{places, plan, Script};
 use crate::writer::{encoded, Plan};
 use std::io::Write;
 
@@ -23,6 +24,16 @@ fn missing_and_barred() -> Vec<u8> {
 fn hash_differs() -> Vec<u8> {
     let plan = plan(14, 4, 1);
     plan.file_around(&conflicting_chunks(&plan).concat())
+}
+
+/// A byte of the third chunk was lost on the way: in its place the chunk takes the first one of the next, and what is left of
+/// that is no chunk.
+fn stopped() -> Vec<u8> {
+    let plan = plan(14, 4, 1);
+    let (lost, _) = places(&plan)[2];
+    let mut file = plan.file();
+    file.remove(lost + 48);
+    file
 }
 
 /// A header with one breach; nothing comes after it but the trailer, or a file cut short would still be long enough.
@@ -50,6 +61,8 @@ fn cases() -> Vec<(String, Vec<u8>)> {
         ("rebuilt", rebuilt()),
         ("missing-and-barred", missing_and_barred()),
         ("hash-differs", hash_differs()),
+        ("stopped", stopped()),
+        ("refused-chunks", listings::file_of_refused(false)),
         // the most bytes that the program takes, and one more
         ("longest-file", whole_file(65_536)),
         ("refused-15-long-file", whole_file(65_537)),

@@ -5,7 +5,7 @@ mod extensions;
 mod handouts;
 pub mod headers;
 mod histories;
-mod listings;
+pub mod listings;
 mod notes;
 mod sessions;
 mod walks;
@@ -120,7 +120,9 @@ const READING: &[Part] = &[
     headers::damaged_headers,
     headers::header_order,
     chunks::damaged_chunks,
+    chunks::two_wrong_bytes,
     chunks::chunk_fields,
+    chunks::wide_lengths,
     chunks::chunk_order,
     chunks::other_heads,
     longest_headers,
@@ -171,10 +173,12 @@ const LISTINGS: &[Part] = &[
     listings::withheld_sets,
     listings::damaged_chunks,
     listings::lengths,
+    listings::refused_chunks,
     listings::copies,
     listings::refused_headers,
     listings::numbers,
     listings::full_store,
+    listings::most_refusals,
     listings::most_ranges,
     listings::longest_files,
     listings::lent_memory,

@@ -78,6 +78,13 @@ impl Script {
         self.edit(after);
     }
 
+    /// Breaks a check of the chunk at a place in the same way.
+    pub fn break_chunk(&mut self, at: usize, before: &[Edit], after: &[Edit]) {
+        self.edit(before);
+        self.frame(SEAL_CHUNK, 0, at, 0);
+        self.edit(after);
+    }
+
     /// A header that is changed and sealed again.
     pub fn header(&mut self, title: &str, edits: &[Edit]) {
         self.say(title);
@@ -103,9 +110,7 @@ impl Script {
     /// The chunk at a place that is changed, sealed again, and changed once more.
     pub fn chunk(&mut self, title: &str, (at, length): (usize, usize), edits: &[Edit], after: &[Edit]) {
         self.say(title);
-        self.edit(edits);
-        self.frame(SEAL_CHUNK, 0, at, 0);
-        self.edit(after);
+        self.break_chunk(at, edits, after);
         self.check(at, length);
         self.restore();
     }

@@ -24,6 +24,8 @@ pub fn before_a_header(script: &mut Script) {
     script.edit(&[Four(at + in_chunk::LENGTH, 0), Four(at + 80, END_MARKER)]);
     script.frame(SEAL_CHUNK, 0, at, 0);
     script.check(at, 90);
+    script.frame(CHUNK_BYTES, 0x01, at, 90);
+    script.frame(CHUNK_LENGTHS, 0, at, 90);
     script.frame(BEGIN, 0, 0, 0);
     script.frame(OFFER, 0, at, 90);
 }
@@ -49,21 +51,57 @@ pub fn damaged_chunks(script: &mut Script) {
     }
 }
 
+/// Each byte that is in no payload and no hash wrong, and with it each byte of the chunk in turn: of two in one field the
+/// first is told, and of two fields the one that is checked first.
+pub fn two_wrong_bytes(script: &mut Script) {
+    let plan = plan(14, 4, 1);
+    let file = plan.file();
+    script.load(&file);
+    script.read();
+    let (at, length) = places(&plan)[1];
+    for place in (0..48).chain(84..88) {
+        script.say(&format!("byte {place} of a chunk changed, and sealed: each length of it, and each byte as well"));
+        script.break_chunk(at, &[Byte(at + place, file[at + place] ^ 0x01)], &[]);
+        script.frame(CHUNK_LENGTHS, 0, at, length + 2);
+        script.frame(CHUNK_BYTES_SEALED, 0x40, at, length);
+        script.restore();
+    }
+}
+
 pub fn chunk_fields(script: &mut Script) {
     // N = 3, M = 2, S = 8
     let plan = plan(20, 8, 2);
     script.load(&plan.file());
     script.read();
     let (at, length) = places(&plan)[1];
+    let most = u32::MAX as usize;
     indices_and_types(script, (at, length));
-    payload_lengths(script, at);
+    let payloads = [0, 1, 6, 7, 8, 9, 10, 15, 16, 17, 18, 264, 65_544, 200_000, most - 83, most];
+    payload_lengths(script, (at, 300), &payloads);
     single_bytes(script, (at, length));
+}
+
+/// S whose first byte is zero: of a payload length the first byte may be right and the second wrong.
+pub fn wide_lengths(script: &mut Script) {
+    let lengths = [(256, [0, 1, 255, 256, 257, 511, 512, 513]), (4096, [0, 16, 256, 4095, 4096, 4097, 8192, 8193])];
+    for (s, payloads) in lengths {
+        let plan = plan(0, s, 0);
+        script.say(&format!("S = {s}"));
+        script.load_sparse(&plan.file());
+        script.read();
+        let (at, length) = places(&plan)[0];
+        script.frame(CHUNK_LENGTHS, 0, at, length);
+        let longest = 84 + 2 * s as usize;
+        script.frame(GROW, 0, longest, 0);
+        script.frame(KEEP, 0, 0, 0);
+        payload_lengths(script, (at, longest), &payloads);
+    }
 }
 
 fn indices_and_types(script: &mut Script, whole: (usize, usize)) {
     let (at, _) = whole;
     for index in [0, 1, 2, 3, 4, 5, 6, 256, 65_536, 1 << 24, u32::MAX as usize] {
-        for kind in [0, 1, 2, 3, 257, 1 << 24] {
+        for kind in [0, 1, 2, 3, 257, 258, 1 << 24, (1 << 16) + 1, (1 << 16) + 2, (1 << 24) + 1, (1 << 24) + 2] {
             let case = match (index, kind) {
                 (5, 2) => "D.18 ",
                 (1, 3) => "D.22 ",
@@ -75,14 +113,14 @@ fn indices_and_types(script: &mut Script, whole: (usize, usize)) {
     }
 }
 
-fn payload_lengths(script: &mut Script, at: usize) {
-    let most = u32::MAX as usize;
-    for payload in [0, 1, 6, 7, 8, 9, 10, 15, 16, 17, 18, 264, 65_544, 200_000, most - 83, most] {
+/// The chunk at the front of some bytes with other payload lengths.
+fn payload_lengths(script: &mut Script, (at, length): (usize, usize), payloads: &[usize]) {
+    for &payload in payloads {
         let length_field = Four(at + in_chunk::LENGTH, payload);
         let marker = Four(at + 80 + payload, END_MARKER);
         let case = if payload == 17 { "D.68 " } else { "" };
-        script.chunk(&format!("{case}payload length {payload}"), (at, 300), &[length_field], &[marker]);
-        script.chunk("the same without an end marker there", (at, 300), &[length_field], &[]);
+        script.chunk(&format!("{case}payload length {payload}"), (at, length), &[length_field], &[marker]);
+        script.chunk("the same without an end marker there", (at, length), &[length_field], &[]);
         script.chunk("the same with a byte too few", (at, 83 + payload), &[length_field], &[marker]);
     }
 }
@@ -124,6 +162,20 @@ pub fn breaches(at: usize) -> Vec<Breach> {
         // six bytes of payload, and an end marker after their hash
         breach(40, &[Four(at + in_chunk::LENGTH, 6), Four(at + 86, END_MARKER)], &[]),
     ]
+}
+
+/// A chunk of such a file for each number from 33 to 40: its index is 1, and it alone breaks that check.
+pub fn refused_chunks(plan: &Plan) -> Vec<Vec<u8>> {
+    let broken = |breach: Breach| {
+        let mut script = Script::default();
+        script.load(&plan.chunks()[1]);
+        script.break_chunk(0, &breach.before, &breach.after);
+        let mut chunk = file_left(script.0);
+        // six bytes of payload leave two after the end marker
+        chunk.truncate(if breach.number == 40 { 90 } else { 92 });
+        chunk
+    };
+    breaches(0).into_iter().filter(|breach| breach.number >= 33).map(broken).collect()
 }
 
 pub fn chunk_order(script: &mut Script) {

@@ -1,7 +1,7 @@
 //! Listings: document 01's example, every set of withheld chunks, damage that is stepped over and that ends the reading,
 //! refused headers, the program's limits, and lent memory.
 use super::headers::at;
-use super::{chunks, headers, load_longest_header};
+use super::{chunks, conflicting_chunks, headers, load_longest_header};
 use crate::listing::example;
 use crate::probe::*;
 use crate::script::*;
@@ -98,8 +98,7 @@ pub fn damaged_chunks(script: &mut Script) {
         let (at, _) = places(&plan)[place];
         for breach in chunks::breaches(at).into_iter().filter(|breach| breach.number != 30) {
             script.say(&format!("chunk {place} with {}", breach.number));
-            forge(script, at, &breach.before);
-            script.edit(&breach.after);
+            script.break_chunk(at, &breach.before, &breach.after);
             list(script);
             script.restore();
         }
@@ -126,8 +125,36 @@ pub fn lengths(script: &mut Script) {
     }
     let middle = [&whole[0][..], &[0], &whole[1], &whole[2]].concat();
     listed(script, "a byte between two chunks", &plan.file_around(&middle));
+    for count in 1..=4 {
+        let middle = [&whole[0][..], &whole[1][..count], &whole[1], &whole[2]].concat();
+        listed(script, &format!("the first {count} bytes of a chunk twice"), &plan.file_around(&middle));
+    }
+    for count in [1, 47, 48, 84] {
+        let middle = [&whole[0][..], &vec![0; count]].concat();
+        listed(script, &format!("{count} zeros after a chunk"), &plan.file_around(&middle));
+    }
     let middle = [&whole[0][..], b"TRLR", &whole[1]].concat();
     listed(script, "chunks behind what looks like a trailer", &plan.file_around(&middle));
+}
+
+/// A file whose chunks are refused by each number from 33 to 42, with good ones around each: data blocks 0 and 2 and both for
+/// recovery, of which 0 becomes barred. Those from 33 to 40 rise, or fall.
+pub fn file_of_refused(falling: bool) -> Vec<u8> {
+    let plan = plan(20, 8, 2);
+    let (good, other) = (plan.chunks(), conflicting_chunks(&plan));
+    let mut refused = chunks::refused_chunks(&plan);
+    if falling {
+        refused.reverse();
+    }
+    // index 0 is held when the first of these comes, and barred when the second does
+    refused.extend([other[0].clone(), good[0].clone()]);
+    let middle = refused.join(&good[2][..]);
+    plan.file_around(&[&good[0][..], &middle, &good[3], &good[4]].concat())
+}
+
+pub fn refused_chunks(script: &mut Script) {
+    listed(script, "a chunk for each number from 33 to 42, with good ones around it", &file_of_refused(false));
+    listed(script, "the same, those from 33 to 40 in the other order", &file_of_refused(true));
 }
 
 /// Copies that are the same, and that differ: up to twelve indices are barred.
@@ -220,24 +247,53 @@ pub fn full_store(script: &mut Script) {
     sealed(script, "another content hash", &[spoil(&plan, 3), Byte(at::HASH, 0x77)]);
 }
 
-/// N = 1,024, and every second block has come.
+/// Repeats the chunk of this length that ends the file at hand until there are so many.
+fn multiply(script: &mut Script, at: usize, length: usize, count: usize) {
+    let mut made = 1;
+    while made < count {
+        let more = made.min(count - made);
+        script.frame(REPEAT, 0, at, length * more);
+        made += more;
+    }
+}
+
+/// As many chunks as a file has room for: none has a payload, so each is refused by 40. The 29 bytes that are left are
+/// too few for one more.
+pub fn most_refusals(script: &mut Script) {
+    let plan = plan(2, 2, 0);
+    let start = 8 + plan.region().len();
+    script.say("775 refused chunks and a stop");
+    script.load(&[&plan.file_around(&[])[..start], &plan.chunk(0, 1, &[])].concat());
+    multiply(script, start, 84, 775);
+    close(script, start + 84 * 775, 65_536);
+    list(script);
+}
+
+/// N = 1,024, and every second block has come; then chunks without a payload fill the file.
 pub fn most_ranges(script: &mut Script) {
     let plan = Plan { content: [1, 2].repeat(1024), ..plan(0, 2, 0) };
     let start = 8 + plan.region().len();
     script.say("512 missing ranges");
     script.load(&[&plan.file_around(&[])[..start], &plan.chunk(1, 1, &[1, 2])].concat());
-    for doubling in 0..9 {
-        script.frame(REPEAT, 0, start, 86 << doubling);
-    }
+    multiply(script, start, 86, 512);
     for place in 1..512 {
         let at = start + 86 * place;
         forge(script, at, &[Two(at + 20, 2 * place + 1)]);
     }
-    close(script, start + 86 * 512, start + 86 * 512 + 64);
+    let end = start + 86 * 512;
+    close(script, end, end + 64);
     list(script);
     script.say("the first block in place of the second, and one less");
     forge(script, start, &[Two(start + 20, 0)]);
     script.edit(&[Byte(start + 86 * 500 + 48, 7)]);
+    list(script);
+    script.restore();
+    script.say("512 missing ranges, 251 refused chunks and a stop");
+    script.edit(&[Cut(end)]);
+    script.frame(REPEAT, 0, start, 84);
+    forge(script, end, &[Four(end + 28, 0), Four(end + 80, END_MARKER)]);
+    multiply(script, end, 84, 251);
+    close(script, end + 84 * 251, 65_536);
     list(script);
 }
 
@@ -272,7 +328,7 @@ pub fn lent_memory(script: &mut Script) {
         }
     }
     script.say("outputs of other lengths");
-    for room in [0, 1, LEAST_OUTPUT - 1, LEAST_OUTPUT, LEAST_OUTPUT + 1, 65_536] {
+    for room in [0, 1, 32_768, LEAST_OUTPUT - 1, LEAST_OUTPUT, LEAST_OUTPUT + 1] {
         script.frame(LISTING, 0, room, 0);
     }
     script.say("wrong memory for a file that is refused");

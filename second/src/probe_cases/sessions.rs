@@ -116,6 +116,13 @@ pub fn offers_and_copies(script: &mut Script) {
     stage.offer_other(script, 0, 0xEF);
     stage.offer(script, 1);
     show(script);
+    stage.begin(script, "two copies that differ, the first of them again, and two of another index");
+    for index in [0, 1] {
+        stage.offer(script, index);
+        stage.offer_other(script, index, 0xEE);
+        stage.offer(script, index);
+    }
+    show(script);
     stage.begin(script, "a recovery chunk's copies differ in one byte");
     stage.offer_other(script, 4, 0x01);
     stage.offer(script, 4);
@@ -128,9 +135,7 @@ pub fn every_refusal(script: &mut Script) {
     stage.offer(script, 2);
     let (at, length) = stage.chunks[1];
     for breach in breaches(at) {
-        script.edit(&breach.before);
-        script.frame(SEAL_CHUNK, 0, at, 0);
-        script.edit(&breach.after);
+        script.break_chunk(at, &breach.before, &breach.after);
         script.frame(OFFER, 0, at, length);
         script.restore();
     }

@@ -62,9 +62,7 @@ pub fn damaged_chunks(script: &mut Script) {
         let (at, _) = stage.chunks[place];
         for breach in breaches(at) {
             stage.begin(script, &format!("a walk with {} at chunk {place}", breach.number));
-            script.edit(&breach.before);
-            script.frame(SEAL_CHUNK, 0, at, 0);
-            script.edit(&breach.after);
+            script.break_chunk(at, &breach.before, &breach.after);
             walk(script, start);
             script.frame(MEASURE_CHUNK, 0, at, ALL);
             script.restore();
