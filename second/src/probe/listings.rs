@@ -27,6 +27,7 @@ impl Probe {
         if let Some(other) = desk.get_mut(usize::from(piece).wrapping_sub(1)) {
             other.resize(length.min(other.len() + 1), PATTERN);
         }
+        // an output may be longer than it has to be, here by a byte
         let room = room.min(LEAST_OUTPUT + 1);
         let is_desk_right = desk.iter().map(Vec::len).eq(DESK);
         let allowed = must(is_desk_right, 71).and_then(|()| must(LEAST_OUTPUT <= room, 52));

@@ -100,16 +100,21 @@ pub fn wide_lengths(script: &mut Script) {
 
 fn indices_and_types(script: &mut Script, whole: (usize, usize)) {
     let (at, _) = whole;
+    let edits = |index, kind| [Four(at + in_chunk::INDEX, index), Four(at + in_chunk::KIND, kind)];
     for index in [0, 1, 2, 3, 4, 5, 6, 256, 65_536, 1 << 24, u32::MAX as usize] {
-        for kind in [0, 1, 2, 3, 257, 258, 1 << 24, (1 << 16) + 1, (1 << 16) + 2, (1 << 24) + 1, (1 << 24) + 2] {
+        for kind in [0, 1, 2, 3, 257, 1 << 24] {
             let case = match (index, kind) {
                 (5, 2) => "D.18 ",
                 (1, 3) => "D.22 ",
                 _ => "",
             };
             let title = format!("{case}index {index} with type {kind}");
-            script.chunk(&title, whole, &[Four(at + in_chunk::INDEX, index), Four(at + in_chunk::KIND, kind)], &[]);
+            script.chunk(&title, whole, &edits(index, kind), &[]);
         }
+    }
+    // the first byte is right, and a later one is not
+    for (index, kind) in [(1, 65_537), (1, (1 << 24) + 1), (3, 258), (3, 65_538), (3, (1 << 24) + 2)] {
+        script.chunk(&format!("index {index} with type {kind}"), whole, &edits(index, kind), &[]);
     }
 }
 

@@ -129,7 +129,7 @@ pub fn lengths(script: &mut Script) {
         let middle = [&whole[0][..], &whole[1][..count], &whole[1], &whole[2]].concat();
         listed(script, &format!("the first {count} bytes of a chunk twice"), &plan.file_around(&middle));
     }
-    for count in [1, 47, 48, 84] {
+    for count in [1, 47, 48] {
         let middle = [&whole[0][..], &vec![0; count]].concat();
         listed(script, &format!("{count} zeros after a chunk"), &plan.file_around(&middle));
     }
