@@ -1,6 +1,6 @@
-//! The files beside document 01's example that sfc_list is run on, by name: one for each way that a listing can end, one whose
-//! chunks are read as far as a break and one with a chunk for each refusal, one for each number and each of the program's limits
-//! that it refuses by, and the longest file that it takes.
+//! The files beside document 01's example that sfc_list is run on, by name: one for each way that a listing can end, one that
+//! is read as far as a break and one with a chunk for each refusal, one for each number and each of the program's limits that
+//! it refuses by, and the longest file that it takes.
 use crate::probe::file_left;
 use crate::probe_cases::{conflicting_chunks, headers, listings};
 use crate::script::{places, plan, Script};
@@ -26,8 +26,8 @@ fn hash_differs() -> Vec<u8> {
     plan.file_around(&conflicting_chunks(&plan).concat())
 }
 
-/// A byte of the third chunk was lost on the way: in its place the chunk takes the first one of the next, and what is left of
-/// that is no chunk.
+/// A byte of the third chunk was lost on the way: the chunk takes the first one of the next for it, and what is left of that
+/// is no chunk.
 fn stopped() -> Vec<u8> {
     let plan = plan(14, 4, 1);
     let (lost, _) = places(&plan)[2];

@@ -169,7 +169,7 @@ pub fn breaches(at: usize) -> Vec<Breach> {
     ]
 }
 
-/// A chunk of such a file for each number from 33 to 40: its index is 1, and it alone breaks that check.
+/// A chunk of such a plan for each number from 33 to 40, which breaks that check and no other; its index is 1.
 pub fn refused_chunks(plan: &Plan) -> Vec<Vec<u8>> {
     let broken = |breach: Breach| {
         let mut script = Script::default();

@@ -137,8 +137,8 @@ pub fn lengths(script: &mut Script) {
     listed(script, "chunks behind what looks like a trailer", &plan.file_around(&middle));
 }
 
-/// A file whose chunks are refused by each number from 33 to 42, with good ones around each: data blocks 0 and 2 and both for
-/// recovery, of which 0 becomes barred. Those from 33 to 40 rise, or fall.
+/// A file with a chunk for each number from 33 to 42, and good ones around each: of data blocks 0 and 2 and both for
+/// recovery, of which 0 becomes barred. The numbers from 33 to 40 rise, or fall.
 pub fn file_of_refused(falling: bool) -> Vec<u8> {
     let plan = plan(20, 8, 2);
     let (good, other) = (plan.chunks(), conflicting_chunks(&plan));
