@@ -32,7 +32,7 @@ pub record Answers : Type 0 where
   pub header : (b : List ℕ) → headerSaid (readHeader b) ≡ byNumber (headerChecks b) (says "good" [])
   pub field : (b : List ℕ) (tag : ℕ) → fieldSaid (findField b tag)
       ≡ byNumber (headerChecks b) (fieldSaid (foundAmong tag (extensionPlace (regionOf b)) (fieldsOf (extensionOf (regionOf b)))))
-  -- a chunk by itself: its index, and the payload's place in it; where it broke, by the number it is refused with; and how long it is
+  -- a chunk by itself: its index, and the payload's place in it; where it broke, by the number of the refusal; and how long it is
   pub chunk : (h : Head) (c : List ℕ) → chunkSaid (checkChunk h c) ≡ byNumber (aloneChecks h c) (says "whole" (indexOf c ∷ 48 ∷ []))
   pub chunk-place : (h : Head) (c : List ℕ) → chunkSpot (checkChunk h c) ≡ spotSaid (spotFor h c) (chunkSaid (checkChunk h c))
   pub measure : (h : Head) (b : List ℕ) → measuredSaid (measureChunk h b) ≡ byNumber (measureChecks h b) (says "length" (chunkLength b ∷ []))

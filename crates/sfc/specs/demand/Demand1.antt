@@ -68,7 +68,8 @@ pub record Demand1 : Type 0 where
   -- A header: 10 to 23, and of the head nothing but zeros.
   pub header-refused : (b : List ℕ) (r : Reason) → readHeader b .verdict ≡ Refused r
       → (10 ≤ numberOf r) × (numberOf r ≤ 23) × (readHeader b ≡ refusedHeader r)
-  -- A chunk by itself: 71 or 30 to 40, and beside the number the place that belongs to it, which is all that is added (session/SpotTheorems).
+  -- A chunk by itself: 71 or 30 to 40, and beside the number the place that belongs to it (session/SpotTheorems): nothing else is
+  -- added.
   pub chunk-refused : (h : Head) (c : List ℕ) (r : Reason) (p : Spot) → checkChunk h c ≡ NoChunk r p
       → OneOf r (71 ∷ 30 ∷ 31 ∷ 32 ∷ 33 ∷ 34 ∷ 35 ∷ 36 ∷ 37 ∷ 38 ∷ 39 ∷ 40 ∷ []) × (p ≡ spotFor h c (numberOf r))
   -- How long a chunk is: 71, 30, 31 or 32; and the count of marks: 71.

@@ -1,5 +1,5 @@
--- What the session's inner functions promise of an offer: one block's part in it, and the verdict before its place is found. A reader
--- of the promises can skip this file.
+-- What the session's inner functions promise of an offer: one block's part in it, and the verdict before its place is found. A
+-- reader of the promises can skip this file.
 use Prim.Native.Nat.{ℕ}
 use mathlib.Core.Path.{_≡_}
 use mathlib.Core.Bool.{cond, false}

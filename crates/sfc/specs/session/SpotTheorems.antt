@@ -1,5 +1,6 @@
--- What is proved of the place where a chunk broke (document 02, [4]), whichever of the two calls gives it: the table by number, that a
--- wrong byte is the first, that the place lies in the chunk, and which numbers have none. Statements, proved in proofs/session/SpotTheorems.antt.
+-- What is proved of the place where a chunk broke (document 02, [4]), whichever of the two calls gives it: the table by number,
+-- that a wrong byte is the first, that the place lies in the chunk, and which numbers have none. Statements, proved in
+-- proofs/session/SpotTheorems.antt.
 use Prim.Native.Nat.{ℕ, _+_, _<_}
 use mathlib.Core.Path.{_≡_}
 use mathlib.Core.Logic.{_⊎_, _≢_, _↔_}
