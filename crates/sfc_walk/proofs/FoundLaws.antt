@@ -10,9 +10,9 @@ use Rattle.sfc.specs.answer.Numbers.{passes}
 use Rattle.sfc.specs.format.Chunk.{chunkLength, measureChecks}
 use Rattle.sfc.specs.declared.format.header.Head.{Head}
 use Rattle.sfc.proofs.Laws.{measureLaws}
-use Rattle.sfc_walk.specs.Walk.{chunksIn, lengthOfAll}
+use Rattle.sfc_walk.specs.Walk.{frontLength, chunksIn, chunksOf, lengthOfAll}
 use Rattle.sfc_walk.specs.WalkTheorems.{concat}
-use Rattle.sfc_walk.proofs.StepLaws.{no-chunk, next-chunk}
+use Rattle.sfc_walk.proofs.StepLaws.{front-some, front-none, no-chunk, next-chunk}
 
 take-nothing : (n : ℕ) → take {A = ℕ} n [] ≡ []
 take-nothing zero = refl
@@ -91,3 +91,16 @@ module _ (h : Head) where
   same zero n b l k = both-none zero n b (some-left b l)
   same (suc m) zero b l k = both-none (suc m) zero b (some-left b k)
   same (suc m) (suc n) b l k = both-more m n b l k (λ p q. same m n (rest b) p q) (passes (measureChecks h b)) refl
+
+  -- ---- a step by the length at the front
+
+  pub none-front : (b : List ℕ) → frontLength h b ≡ 0 → chunksOf h b ≡ []
+  none-front b n = no-chunk h b (length b) (front-none h b n)
+
+  pub next-front : (b : List ℕ) → (frontLength h b ≡ 0 → ⊥)
+      → (chunksOf h b ≡ take (frontLength h b) b ∷ chunksOf h (drop (frontLength h b) b)) × (84 ≤ frontLength h b) × (frontLength h b ≤ length b)
+  next-front b n =
+      let f = front-some h b n in
+      let k : length (rest b) ≤ length b - 1 = omega (arith, f .inside, length-drop (chunkLength b) b) in
+      let e = next-chunk h b (length b) (omega (arith, f .inside)) (f .there) ∙ ap (_∷_ (take (chunkLength b) b)) (same (length b - 1) (length (rest b)) (rest b) k (omega arith)) in
+      (rw (f .ends) e, omega (arith, f .ends), omega (arith, f .ends, f .inside))

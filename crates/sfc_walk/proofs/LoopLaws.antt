@@ -8,6 +8,7 @@ use lib.Seq.{drop-drop, length-take-le}
 use Rattle.sfc.specs.session.Session.{Session, after, Offered, offered}
 use Rattle.sfc.specs.session.History.{afterAll}
 use Rattle.sfc.specs.declared.format.header.Head.{Head}
+use Rattle.sfc.specs.declared.answer.places.Spot.{Spot}
 use Rattle.sfc.specs.declared.session.offer.Verdict.{Verdict}
 use Rattle.sfc_walk.specs.Walk.{frontLength, chunksIn, chunksOf, lengthOfAll, Walk, walkOver}
 use Rattle.sfc_walk.proofs.StepLaws.{front-some, front-none, no-chunk, next-chunk}
@@ -62,14 +63,15 @@ module _ (h : Head) (x₀ : Session) (b : List ℕ) where
           let i : k ≤ length t = omega (arith, f .inside, f .ends, ek) in
           (i, omega (arith, w .0))
 
-      pub walking-on : (y : Session) (v : Verdict) → _≡_ {A = Offered} (record { session = y; verdict = v }) (offered h x (take k t)) → Walking (most - 1) (at + k) y
+      pub walking-on : (y : Session) (v : Verdict) (s : Spot) → _≡_ {A = Offered} (record { session = y; verdict = v; spot = s }) (offered h x (take k t))
+          → Walking (most - 1) (at + k) y
       unfolding Walking afterAll lengthOfAll
-      walking-on y v e =
+      walking-on y v s e =
           let f = front-some h t is-some in
           let ey : y ≡ after h x (take k t) = ap (λ (o : Offered). o .session) e ∙ session-left h x (take k t) in
           let d : drop k t ≡ drop (at + k) b = ap (drop k) rest ∙ drop-drop k at b in
           let n : chunksIn most h (drop at b) ≡ take k t ∷ chunksIn (most - 1) h (drop (at + k) b) =
           rw (← rest, next-chunk h t most more (f .there), ← (f .ends), ← ek, d) in
           let l : length (take k t) ≡ k = length-take-le k t (front-inside .0) in
-          let s : at + (length (take k t) + lengthOfAll (chunksIn (most - 1) h (drop (at + k) b))) ≡ at + k + lengthOfAll (chunksIn (most - 1) h (drop (at + k) b)) = omega arith in
-          (front-inside .1, rw (ey, ← s) (rw n at (w .1)))
+          let m : at + (length (take k t) + lengthOfAll (chunksIn (most - 1) h (drop (at + k) b))) ≡ at + k + lengthOfAll (chunksIn (most - 1) h (drop (at + k) b)) = omega arith in
+          (front-inside .1, rw (ey, ← m) (rw n at (w .1)))

@@ -88,7 +88,7 @@ module _ (h : Head) where
       go true e w = (cut-good b e, w)
       go false e w = tt
 
-  walk-few : (most : ℕ) (b : List ℕ) → length (chunksIn most h b) ≤ most
+  pub walk-few : (most : ℕ) (b : List ℕ) → length (chunksIn most h b) ≤ most
   unfolding chunksIn
   walk-few zero b = omega arith
   walk-few (suc most) b = go (passes (measureChecks h b)) (walk-few most (drop (chunkLength b) b))

@@ -1,6 +1,7 @@
 -- What is proved of the walk: statements, of any head and any bytes. Proved in proofs/WalkTheorems.antt.
 use Prim.Native.Nat.{ℕ, _+_, _-_, _<_, _≤_}
 use mathlib.Core.Path.{_≡_}
+use mathlib.Core.Logic.{_≢_}
 use mathlib.Core.Bool.{Bool, true, false, _&&_}
 use mathlib.Core.List.{List, [], _∷_, _++_}
 use lib.Dec.{leb}
@@ -14,7 +15,7 @@ use Rattle.sfc.specs.declared.format.header.Head.{Head}
 use Rattle.sfc.specs.declared.answer.reason.Reason.{Reason}
 use Rattle.sfc.specs.declared.session.offer.Verdict.{Verdict}
 use Rattle.sfc.specs.declared.session.offer.Verdict.the-variants.{Fresh, Repeat, Refused}
-use Rattle.sfc_walk.specs.Walk.{chunksIn, chunksOf, lengthOfAll}
+use Rattle.sfc_walk.specs.Walk.{frontLength, chunksIn, chunksOf, lengthOfAll}
 
 unfoldable pub concat : List (List ℕ) → List ℕ
 concat [] = []
@@ -36,12 +37,19 @@ pub record WalkTheorems : Type 0 where
   -- The chunks are the front of the bytes, cut where each of them ends.
   pub chunks-joined : (h : Head) (b : List ℕ) → concat (chunksOf h b) ≡ take (lengthOfAll (chunksOf h b)) b
   pub end-inside : (h : Head) (b : List ℕ) → lengthOfAll (chunksOf h b) ≤ length b
+  pub chunks-few : (h : Head) (b : List ℕ) → length (chunksOf h b) ≤ length b
   -- The walk ends exactly where measuring refuses, by 71, 30, 31 or 32; where nothing is left that is 30.
   pub walk-stops : (h : Head) (b : List ℕ) → passes (measureChecks h (drop (lengthOfAll (chunksOf h b)) b)) ≡ false
   -- One step: where measuring refuses there is no chunk; else the one at the front, and then those after it.
   pub no-chunk : (h : Head) (b : List ℕ) (most : ℕ) → passes (measureChecks h b) ≡ false → chunksIn most h b ≡ []
   pub next-chunk : (h : Head) (b : List ℕ) (most : ℕ) → 0 < most → passes (measureChecks h b) ≡ true
       → chunksIn most h b ≡ take (chunkLength b) b ∷ chunksIn (most - 1) h (drop (chunkLength b) b)
+  -- The same step by the length that `length_at_front` tells: where it is 0 there is no chunk; else the first is so long, 84 bytes at
+  -- least, and the others are those of the bytes after it.
+  pub front-none : (h : Head) (b : List ℕ) → frontLength h b ≡ 0 → chunksOf h b ≡ []
+  pub front-next : (h : Head) (b : List ℕ) → frontLength h b ≢ 0
+      → (chunksOf h b ≡ take (frontLength h b) b ∷ chunksOf h (drop (frontLength h b) b))
+      × (84 ≤ frontLength h b) × (frontLength h b ≤ length b)
   -- Where 71 has nothing against the session, and short of 43, each chunk is answered fresh, repeat or 33 to 42, and what is left
   -- after the last of them, be it nothing, would be refused by 30, 31 or 32.
   pub chunks-answered : (h : Head) (x : Session) (b : List ℕ) → sessionWrong h x ≡ false → total (x .tallies) + length b < 4294967295

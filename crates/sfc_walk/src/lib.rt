@@ -14,8 +14,9 @@ pub struct Walked {
     pub end: usize,
 }
 
-// How many bytes the chunk at the front takes up, and 0 where there is none.
-fn length_at_front(h: Head, b: &[u8]) -> usize
+// How many bytes the chunk at the front takes up, and 0 where there is none. A caller that has more to do with each chunk than to
+// offer it walks by it with a loop of its own.
+pub fn length_at_front(h: Head, b: &[u8]) -> usize
     ensures { λ r. ⌜ r ≡ frontLength h (now (b .entry)) ⌝ }
 {
     let measured = measure_chunk(h, b);

@@ -50,7 +50,7 @@ loop-again c =
     let a = c .before .before .before .before .before .before .before .before .before .before .before .before .before .before .before .before .before .args in
     let l = c .before .before .before .before .before .before .before .before .before .before .before .before .before .loop in
     let o = c .before .before .before .before .before .offer in
-    (walking-on (a .h) (sessionOf (a .store .now) (a .marks .now) (a .tallies)) (a .bytes .now) (l .most) (l .at) (c .before .before .before .before .before .before .before .before .before .before .length-at-front .result) _ (sessionOf (l .store) (l .marks) (l .counted)) (c .before .before .before .before .before .before .before .before .before .before .before .before .loop-test .taken) (l .inv .0) (partLaws .part-rest (a .bytes .now) (l .at)) (c .before .before .before .before .before .before .before .before .before .before .length-at-front .ensures) (c .before .before .before .before .before .before .before .before .before .if1 .left) _ _ (o .ensures), o .kept .1 .1 .0 ∙ l .inv .1, o .kept .1 .1 .1 .0 ∙ l .inv .2, l .inv .3)
+    (walking-on (a .h) (sessionOf (a .store .now) (a .marks .now) (a .tallies)) (a .bytes .now) (l .most) (l .at) (c .before .before .before .before .before .before .before .before .before .before .length-at-front .result) _ (sessionOf (l .store) (l .marks) (l .counted)) (c .before .before .before .before .before .before .before .before .before .before .before .before .loop-test .taken) (l .inv .0) (partLaws .part-rest (a .bytes .now) (l .at)) (c .before .before .before .before .before .before .before .before .before .before .length-at-front .ensures) (c .before .before .before .before .before .before .before .before .before .if1 .left) _ _ _ (o .ensures), o .kept .1 .1 .0 ∙ l .inv .1, o .kept .1 .1 .1 .0 ∙ l .inv .2, l .inv .3)
 
 returns-2 : tie.Need-returns-2 Inv-loop μ-loop
 returns-2 c = let a = c .before .before .before .before .before .args in let l = c .before .loop in walking-end (a .h) (sessionOf (a .store .now) (a .marks .now) (a .tallies)) (a .bytes .now) (l .most) (l .at) (sessionOf (l .store) (l .marks) (l .counted)) (c .loop-test .left) (l .inv .0)
