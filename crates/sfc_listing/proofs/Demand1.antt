@@ -1,5 +1,5 @@
 -- Demand 1 for the listing, proved (specs/Demand1). Assumes nothing.
-use Prim.Native.Nat.{ℕ, _≤_}
+use Prim.Native.Nat.{ℕ, _+_, _≤_}
 use mathlib.Core.Path.{_≡_, refl, sym, ap, _∙_}
 use mathlib.Core.Bool.{true, false}
 use mathlib.Core.List.{List, [], _∷_}
@@ -13,7 +13,7 @@ use Rattle.little.specs.Said.{says}
 use Rattle.sfc.specs.answer.Said.{byNumber, writtenSaid}
 use Rattle.sfc.specs.answer.Numbers.{Check, checked, verdict, reasonOf, numberOf}
 use Rattle.sfc.specs.demand.Demand1.{Leaves, Ends}
-use Rattle.sfc.specs.format.Header.{regionOf, headOf}
+use Rattle.sfc.specs.format.Header.{lengthField, regionOf, headOf}
 use Rattle.sfc.specs.give.HandOut.{contentChecks}
 use Rattle.sfc.specs.session.Session.{Session}
 use Rattle.sfc.specs.declared.format.header.Head.{Head}
@@ -23,7 +23,7 @@ use Rattle.sfc.specs.declared.answer.reason.Checked.the-variants.{Good, Refused
 use Rattle.sfc.specs.declared.answer.written.Written.{Written}
 use Rattle.sfc.specs.declared.answer.written.Written.the-variants.{Bytes, Refused}
 use Rattle.sfc_listing.specs.Text.{text}
-use Rattle.sfc_listing.specs.Listing.{sessionIn, refusedWord, lastWord, sessionText, programChecks, refusedText, listingOf, Desk, cleared, listingChecks, listed}
+use Rattle.sfc_listing.specs.Listing.{between, refusedWord, lastWord, sessionText, programChecks, refusedText, listingOf, Desk, cleared, listingChecks, listed}
 use Rattle.sfc_listing.specs.Demand1.{ListingDemand}
 use Rattle.sfc.proofs.Laws.{checkLaws}
 use Rattle.sfc_listing.proofs.FitLaws.{refused-long, listing-fits}
@@ -55,7 +55,7 @@ module _ (f : List ℕ) (d : Desk) (out : List ℕ) where
       let t = told Good (ap writtenSeen e) in
       let g : _≡_ {A = Written} (Bytes (length (listingOf f))) (Bytes k) = sym (checkLaws .good-all Refused cs _ t) ∙ e in
       let q : length (listingOf f) ≡ k = cc in
-      (checkLaws .ends cs out (listingOf f) k t q (omega (arith, listing-fits f, ltb-false (length out) 32768 (checkLaws .passed cs t .1 .0))), checkLaws .good-all (λ (r : Reason). d) cs (cleared d) t)
+      (checkLaws .ends cs out (listingOf f) k t q (omega (arith, listing-fits f, ltb-false (length out) 65536 (checkLaws .passed cs t .1 .0))), checkLaws .good-all (λ (r : Reason). d) cs (cleared d) t)
 
 file-refused : (f : List ℕ) (r : Reason) → verdict (programChecks (headOf (regionOf f)) f) ≡ Bad r
     → (listingOf f ≡ refusedText (numberOf r)) × (10 ≤ numberOf r) × (numberOf r ≤ 23)
@@ -64,7 +64,7 @@ file-refused f r e =
     let h : Head = headOf (regionOf f) in
     let n = checkLaws .number-in (λ (k : ℕ). (10 ≤ k) × (k ≤ 23)) (programChecks h f) r
     ((lit≤ tt, lit≤ tt), ((lit≤ tt, lit≤ tt), ((lit≤ tt, lit≤ tt), ((lit≤ tt, lit≤ tt), ((lit≤ tt, lit≤ tt), ((lit≤ tt, lit≤ tt), ((lit≤ tt, lit≤ tt), ((lit≤ tt, lit≤ tt), ((lit≤ tt, lit≤ tt), ((lit≤ tt, lit≤ tt), ((lit≤ tt, lit≤ tt), ((lit≤ tt, lit≤ tt), ((lit≤ tt, lit≤ tt), ((lit≤ tt, lit≤ tt), ((lit≤ tt, lit≤ tt), ((lit≤ tt, lit≤ tt), ((lit≤ tt, lit≤ tt), tt))))))))))))))))) e in
-    (checkLaws .refused-all (λ (q : Reason). refusedText (numberOf q)) (programChecks h f) (sessionText h (sessionIn h f)) r e, n .0, n .1)
+    (checkLaws .refused-all (λ (q : Reason). refusedText (numberOf q)) (programChecks h f) (sessionText h (lengthField f + 12) (between f)) r e, n .0, n .1)
 
 -- the words differ, so the last one tells how the checks ended
 decided-good : (cs : List Check) → checked cs refusedWord (text "complete") ≡ text "complete" → verdict cs ≡ Good

@@ -10,13 +10,11 @@ use lib.Dec.{eqb, ltb}
 use lib.ListN.{length, take}
 use lib.Seq.{length-take-le}
 use Rattle.little.specs.Parts.{part}
-use Rattle.little.proofs.Laws.{testLaws}
+use Rattle.little.proofs.Laws.{testLaws, partLaws}
 use Rattle.little.specs.Runs.{zeros}
 use Rattle.sfc.specs.answer.Numbers.{verdict, numberOf}
 use Rattle.sfc.specs.format.Header.{lengthField, regionOf, headOf, headerChecks, refusedHeader, acceptedHeader, readHeader}
-use Rattle.sfc.specs.session.Session.{blank}
-use Rattle.sfc_walk.specs.Walk.{walkOver}
-use Rattle.sfc_listing.specs.Listing.{between, sessionIn, sessionText, refusedText, listingOf, Desk, deskOf, lengthsWrong, deskWrong, cleared, listedOf, listed}
+use Rattle.sfc_listing.specs.Listing.{between, sessionText, refusedText, listingOf, Desk, deskOf, lengthsWrong, deskWrong, cleared, listedOf, listed}
 use Rattle.sfc_listing.specs.Lines.{Printed}
 use Rattle.sfc_listing.specs.Steps.{acceptedText, Ready}
 use Rattle.sfc.specs.declared.format.header.Head.{Head}
@@ -57,13 +55,13 @@ module _ (f : List ℕ) where
     unfolding listingOf
     listing-refused r g =
         rw (le-ltb 65536 (length f) short)
-        (sym (checkLaws .refused-then (λ (q : Reason). refusedText (numberOf q)) (headerChecks f) ((ltb 32768 ((head .n + head .m) * head .s), 15) ∷ []) (sessionText head (sessionIn head f)) r (told x (Refused r) e g)))
+        (sym (checkLaws .refused-then (λ (q : Reason). refusedText (numberOf q)) (headerChecks f) ((ltb 32768 ((head .n + head .m) * head .s), 15) ∷ []) (sessionText head (lengthField f + 12) (between f)) r (told x (Refused r) e g)))
 
     accepted-text : x .verdict ≡ Good → acceptedText head f ≡ listingOf f
     unfolding listingOf acceptedText
     accepted-text g =
         rw (le-ltb 65536 (length f) short)
-        (sym (checkLaws .good-then (λ (q : Reason). refusedText (numberOf q)) (headerChecks f) ((ltb 32768 ((head .n + head .m) * head .s), 15) ∷ []) (sessionText head (sessionIn head f)) (told x Good e g)))
+        (sym (checkLaws .good-then (λ (q : Reason). refusedText (numberOf q)) (headerChecks f) ((ltb 32768 ((head .n + head .m) * head .s), 15) ∷ []) (sessionText head (lengthField f + 12) (between f)) (told x Good e g)))
 
     pub listing-accepted : x .verdict ≡ Good → (readHeader f ≡ acceptedHeader (x .head)) × (acceptedText (x .head) f ≡ listingOf f)
     listing-accepted g =
@@ -101,6 +99,10 @@ long d w =
 
 -- ---- an accepted header
 
+-- how many bytes lie between region and trailer
+abbrev pub widthFrom : List ℕ → ℕ → ℕ
+widthFrom f field = length f - 64 - (field + 12)
+
 module _ (h : Head) (f : List ℕ) (e : readHeader f ≡ acceptedHeader h) where
   shape : RightShape (h .size) (h .n) (h .m) (h .s)
   shape = lentLaws .right-shape (h .size) (h .n) (h .m) (h .s) (lentLaws .accepted-shape f h e)
@@ -116,14 +118,18 @@ module _ (h : Head) (f : List ℕ) (e : readHeader f ≡ acceptedHeader h) where
   pub trailer-after : lengthField f + 76 ≤ length f
   trailer-after = ltb-false (length f) (lengthField f + 76) (checkLaws .passed (headerChecks f) (told f (acceptedHeader h) Good (sym e) refl) .1 .1 .1 .1 .0)
 
+  -- and the bytes between them end before the trailer
+  pub chunks-near : length f ≤ 65536 → (field : ℕ) → field ≡ lengthField f → field + 12 + length (part f (field + 12) (widthFrom f field)) ≤ 65536
+  chunks-near short field ef = omega (arith, trailer-after, partLaws .length-cut f (field + 12) (widthFrom f field))
+
   pub limit-text : 32768 < (h .n + h .m) * h .s → refusedText 15 ≡ acceptedText h f
   unfolding acceptedText
   limit-text k = rw (lt-ltb 32768 ((h .n + h .m) * h .s) k)
 
   module _ (few : (h .n + h .m) * h .s ≤ 32768) where
     pub session-text : (field : ℕ) → field ≡ lengthField f
-        → sessionText h (walkOver h (blank h) (part f (field + 12) (length f - 64 - (field + 12))) .session) ≡ acceptedText h f
-    unfolding acceptedText sessionIn between
+        → sessionText h (field + 12) (part f (field + 12) (widthFrom f field)) ≡ acceptedText h f
+    unfolding acceptedText between
     session-text field ef = rw (le-ltb 32768 ((h .n + h .m) * h .s) few, ef)
 
     module _ (d : Desk) (w : deskWrong d ≡ false) where
@@ -133,9 +139,8 @@ module _ (h : Head) (f : List ℕ) (e : readHeader f ≡ acceptedHeader h) where
           let b = blocks-few in
           (omega (arith, l .store), omega (arith, l .marks), omega (arith, l .scratch))
 
-      pub ready : (out : List ℕ) → 32768 ≤ length out
-          → Ready h (deskOf (take ((h .n + h .m) * h .s) (d .store)) (take (h .n + h .m) (d .marks)) (take (h .m * h .s) (d .scratch)) (d .numbers) (d .content) (d .bounds)) out
-      ready out room =
+      pub ready : Ready h (deskOf (take ((h .n + h .m) * h .s) (d .store)) (take (h .n + h .m) (d .marks)) (take (h .m * h .s) (d .scratch)) (d .numbers) (d .content) (d .bounds))
+      ready =
           let l = long d w in
           let b = desk-holds in
           record {
@@ -147,7 +152,6 @@ module _ (h : Head) (f : List ℕ) (e : readHeader f ≡ acceptedHeader h) where
             numbers-long = l .numbers;
             content-long = l .content;
             bounds-long = l .bounds;
-            room = room;
           }
 
 -- ---- the call
@@ -164,11 +168,11 @@ module _ (f : List ℕ) (d : Desk) (out : List ℕ) where
   listed-wrong w = rw w
 
   module _ (w : deskWrong d ≡ false) where
-    pub listed-short : length out < 32768 → listedOf (Unwritten OutputShort) d out ≡ listed f d out
+    pub listed-short : length out < 65536 → listedOf (Unwritten OutputShort) d out ≡ listed f d out
     unfolding listed
-    listed-short h = rw (w, lt-ltb (length out) 32768 h)
+    listed-short h = rw (w, lt-ltb (length out) 65536 h)
 
-    pub listed-good : 32768 ≤ length out → (r : ℕ) (after : List ℕ) (desk : Desk) → Printed r out after (listingOf f) → desk ≡ cleared d
+    pub listed-good : 65536 ≤ length out → (r : ℕ) (after : List ℕ) (desk : Desk) → Printed r out after (listingOf f) → desk ≡ cleared d
         → listedOf (Bytes r) desk after ≡ listed f d out
     unfolding listed
-    listed-good h r after desk p q = rw (w, le-ltb (length out) 32768 h) (λ i. listedOf (Bytes (p .0 i)) (q i) (p .1 i))
+    listed-good h r after desk p q = rw (w, le-ltb (length out) 65536 h) (λ i. listedOf (Bytes (p .0 i)) (q i) (p .1 i))

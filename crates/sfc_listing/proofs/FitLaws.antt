@@ -1,29 +1,41 @@
--- No listing is longer than the room that it is given: every line at its longest, and at most 512 missing ranges. Assumes nothing.
+-- No listing is longer than the room that it is given: every line at its longest, a refused line for each 84 bytes of the file, and at
+-- most 512 missing ranges. Assumes nothing.
 use Prim.Native.Nat.{ℕ, zero, suc, _+_, _*_, _/_, _%_, _≤_}
-use mathlib.Core.Path.{_≡_, refl}
+use mathlib.Core.Path.{_≡_, refl, ap}
 use mathlib.Core.Bool.{Bool, true, false, cond}
 use mathlib.Core.List.{List, [], _∷_, _++_}
 use native.Mathlib.Omega.{arith}
+use borrow.Author.Tests.{ltb-false}
 use lib.Dec.{ltb, eqb}
-use lib.ListN.{length, length-append}
+use lib.ListN.{length, take, drop, length-append, length-take, length-drop}
+use lib.Seq.{length-take-le}
+use Rattle.little.specs.Parts.{part}
 use Rattle.little.proofs.Laws.{testLaws, partLaws}
-use Rattle.sfc.specs.answer.Numbers.{Check, checked, verdict, reasonOf, numberOf}
-use Rattle.sfc.specs.format.Header.{regionOf, headOf, headerChecks}
+use Rattle.sfc.specs.answer.Numbers.{Check, checked, verdict, passes, reasonOf, numberOf}
+use Rattle.sfc.specs.format.Header.{lengthField, regionOf, headOf, headerChecks}
+use Rattle.sfc.specs.format.Chunk.{chunkLength, measureChecks}
 use Rattle.sfc.specs.session.Marks.{heldCount, barredCount}
 use Rattle.sfc.specs.session.Lent.{marksWrong, lentWrong}
-use Rattle.sfc.specs.session.Session.{Session, blank, sessionWrong}
+use Rattle.sfc.specs.session.Session.{Session, blank, sessionWrong, after, offered}
+use Rattle.sfc.specs.session.History.{afterAll}
 use Rattle.sfc.specs.note.Missing.{missing}
 use Rattle.sfc.specs.note.Ranges.{Range, ranges}
 use Rattle.sfc.specs.give.HandOut.{contentChecks}
-use Rattle.sfc_walk.specs.Walk.{chunksOf, walkOver}
+use Rattle.sfc_walk.specs.Walk.{chunksIn, chunksOf, lengthOfAll, walkOver}
 use Rattle.sfc_listing.specs.Text.{text, digits, decimal, hex, line}
-use Rattle.sfc_listing.specs.Listing.{between, sessionIn, uuidLine, shapeLine, countsLine, missingLine, missingLines, refusedWord, lastWord, startText, sessionText, programChecks, refusedText, listingOf}
+use Rattle.sfc_listing.specs.Listing.{between, sessionIn, refusedText, refusalLine, verdictLine, refusedLine, refusedLines, stopIn, toldIn, uuidLine, shapeLine, countsLine, headText, missingLine, missingLines, refusedWord, lastWord, endText, sessionText, programChecks, listingOf}
 use Rattle.sfc.specs.declared.format.header.Head.{Head}
 use Rattle.sfc.specs.declared.answer.reason.Reason.{Reason}
 use Rattle.sfc.specs.declared.answer.reason.Checked.the-variants.{Good}
-use Rattle.sfc.proofs.Laws.{checkLaws, lentLaws, offerLaws}
+use Rattle.sfc.specs.declared.answer.places.Spot.{Spot}
+use Rattle.sfc.specs.declared.answer.places.Spot.the-variants.{At, Nowhere}
+use Rattle.sfc.specs.declared.session.offer.Verdict.{Verdict}
+use Rattle.sfc.specs.declared.session.offer.Verdict.the-variants.{Fresh, Repeat, Refused}
+use Rattle.sfc.proofs.Laws.{checkLaws, lentLaws, measureLaws, offerLaws}
 use Rattle.sfc.proofs.Theorems.{ranges-few}
-use Rattle.sfc_listing.proofs.FileLaws.{good-read}
+use Rattle.sfc_walk.proofs.WalkTheorems.{walk-theorems}
+use Rattle.sfc_listing.proofs.FileLaws.{widthFrom, good-read}
+use Rattle.sfc_listing.proofs.TellLaws.{lines-append}
 
 -- ---- pieces, and one after the other
 
@@ -98,6 +110,57 @@ refused-short : (number : ℕ) → length (refusedText number) ≤ 29
 unfolding refusedText text
 refused-short number = ended (text "refused " ++ decimal number) 28 (named (text "refused ") number 8 refl)
 
+-- ---- the refused lines
+
+refusal-short : (at : ℕ) (r : Reason) (s : Spot) → length (refusalLine at r s) ≤ 50
+unfolding refusalLine text
+refusal-short at r (At p) =
+    let shown : List ℕ = text "refused " ++ decimal (numberOf r) in
+    ended (shown ++ text " " ++ decimal (at + p .0)) 49 (and-named shown (text " ") (at + p .0) 28 1 (named (text "refused ") (numberOf r) 8 refl) refl)
+refusal-short at r Nowhere = omega (arith, refused-short (numberOf r))
+
+verdict-short : (at : ℕ) (v : Verdict) (s : Spot) → length (verdictLine at v s) ≤ 50
+unfolding verdictLine
+verdict-short at (Fresh i p) s = omega arith
+verdict-short at (Repeat i p) s = omega arith
+verdict-short at (Refused r) s = refusal-short at r s
+
+module _ (h : Head) where
+  -- a chunk has 84 bytes at least
+  chunks-short : (most : ℕ) (x : Session) (at : ℕ) (b : List ℕ) → 84 * length (refusedLines h x at (chunksIn most h b)) ≤ 50 * lengthOfAll (chunksIn most h b)
+  unfolding chunksIn refusedLines lengthOfAll
+  chunks-short zero x at b = omega arith
+  chunks-short (suc most) x at b =
+      let c : List ℕ = take (chunkLength b) b in
+      go (passes (measureChecks h b)) refl (chunks-short most (after h x c) (at + length c) (drop (chunkLength b) b))
+    where
+      go : (t : Bool) → passes (measureChecks h b) ≡ t
+          → 84 * length (refusedLines h (after h x (take (chunkLength b) b)) (at + length (take (chunkLength b) b)) (chunksIn most h (drop (chunkLength b) b))) ≤ 50 * lengthOfAll (chunksIn most h (drop (chunkLength b) b))
+          → 84 * length (refusedLines h x at (cond t (take (chunkLength b) b ∷ chunksIn most h (drop (chunkLength b) b)) [])) ≤ 50 * lengthOfAll (cond t (take (chunkLength b) b ∷ chunksIn most h (drop (chunkLength b) b)) [])
+      go true e r =
+          let o = offered h x (take (chunkLength b) b) in
+          omega (arith, length-take-le (chunkLength b) b (measureLaws .front-there h b e), verdict-short at (o .verdict) (o .spot), length-append (refusedLine at o) (refusedLines h (after h x (take (chunkLength b) b)) (at + length (take (chunkLength b) b)) (chunksIn most h (drop (chunkLength b) b))))
+      go false e r = omega arith
+
+  stop-short : (x : Session) (at : ℕ) (c : List ℕ) → length (refusedLines h x at (stopIn c)) ≤ 50
+  unfolding stopIn refusedLines
+  stop-short x at [] = omega arith
+  stop-short x at (a ∷ c) = let o = offered h x (a ∷ c) in omega (arith, verdict-short at (o .verdict) (o .spot), length-append (refusedLine at o) [])
+
+  told-short : (x : Session) (at : ℕ) (b : List ℕ) → length b ≤ 65536 → length (refusedLines h x at (toldIn h b)) ≤ 39060
+  unfolding toldIn
+  told-short x at b l =
+      let cs : List (List ℕ) = chunksOf h b in
+      let stop : List (List ℕ) = stopIn (drop (lengthOfAll cs) b) in
+      omega (
+        arith,
+        ap length (lines-append h x at cs stop),
+        length-append (refusedLines h x at cs) (refusedLines h (afterAll h x cs) (at + lengthOfAll cs) stop),
+        chunks-short (length b) x at b,
+        walk-theorems .end-inside h b,
+        stop-short (afterAll h x cs) (at + lengthOfAll cs) (drop (lengthOfAll cs) b),
+      )
+
 -- longer than the word for no refusal
 pub refused-long : (r : Reason) → (10 ≤ length (refusedWord r)) × (length (refusedWord r) ≤ 12)
 unfolding refusedWord text
@@ -113,13 +176,11 @@ word-short h x = decided (contentChecks h (x .store) (x .marks)) refusedWord (te
 
 -- ---- the whole
 
-start-short : (uuid : List ℕ) (n m size s held barred : ℕ) → length uuid ≤ 16 → length (startText uuid n m size s held barred) ≤ 207
-unfolding startText
-start-short uuid n m size s held barred u =
-    both (uuidLine uuid ++ shapeLine n m size s) (countsLine held barred) 153 54
-    (both (uuidLine uuid) (shapeLine n m size s) 42 111 (uuid-short uuid u) (shape-short n m size s)) (counts-short held barred)
+head-short : (uuid : List ℕ) (n m size s : ℕ) → length uuid ≤ 16 → length (headText uuid n m size s) ≤ 153
+unfolding headText
+head-short uuid n m size s u = both (uuidLine uuid) (shapeLine n m size s) 42 111 (uuid-short uuid u) (shape-short n m size s)
 
-module _ (h : Head) (x : Session) (right : sessionWrong h x ≡ false) (u : length (h .uuid) ≤ 16) where
+module _ (h : Head) (x : Session) (right : sessionWrong h x ≡ false) where
   abbrev rs : List Range
   rs = ranges (missing (h .n) (x .marks))
 
@@ -130,13 +191,25 @@ module _ (h : Head) (x : Session) (right : sessionWrong h x ≡ false) (u : leng
   few-ranges : length rs ≤ 512
   few-ranges = omega (arith, ranges-few .ranges-few (h .n) (x .marks), lentLaws .right-marks (h .size) (h .n) (h .m) (h .s) (x .marks) marks-right .shape .n-most)
 
-  session-short : length (sessionText h x) ≤ 25820
-  unfolding sessionText
-  session-short =
-      let start : List ℕ = startText (h .uuid) (h .n) (h .m) (h .size) (h .s) (heldCount (x .marks)) (barredCount (x .marks)) in
-      both (start ++ missingLines rs) (line (lastWord h x)) 25807 13
-      (both start (missingLines rs) 207 25600 (start-short (h .uuid) (h .n) (h .m) (h .size) (h .s) (heldCount (x .marks)) (barredCount (x .marks)) u) (omega (arith, missing-short rs, few-ranges)))
+  end-short : length (endText h x) ≤ 25667
+  unfolding endText
+  end-short =
+      let counts : List ℕ = countsLine (heldCount (x .marks)) (barredCount (x .marks)) in
+      both (counts ++ missingLines rs) (line (lastWord h x)) 25654 13
+      (both counts (missingLines rs) 54 25600 (counts-short (heldCount (x .marks)) (barredCount (x .marks))) (omega (arith, missing-short rs, few-ranges)))
       (ended (lastWord h x) 12 (word-short h x))
+
+session-short : (h : Head) (at : ℕ) (b : List ℕ) → length (h .uuid) ≤ 16 → length b ≤ 65536 → sessionWrong h (walkOver h (blank h) b .session) ≡ false
+    → length (sessionText h at b) ≤ 64880
+unfolding sessionText
+session-short h at b u l right =
+    let first : List ℕ = headText (h .uuid) (h .n) (h .m) (h .size) (h .s) in
+    let told : List ℕ = refusedLines h (blank h) at (toldIn h b) in
+    both (first ++ told) (endText h (walkOver h (blank h) b .session)) 39213 25667
+    (both first told 153 39060 (head-short (h .uuid) (h .n) (h .m) (h .size) (h .s) u) (told-short h (blank h) at b l)) (end-short h (walkOver h (blank h) b .session) right)
+
+part-short : (xs : List ℕ) (at n : ℕ) → length (part xs at n) ≤ length xs
+part-short xs at n = omega (arith, length-take n (drop at xs), length-drop at xs)
 
 module _ (f : List ℕ) where
   abbrev head : Head
@@ -151,9 +224,19 @@ module _ (f : List ℕ) where
   unfolding sessionIn walkOver
   session-right g = offerLaws .stays-lent head (blank head) (chunksOf head (between f)) (lentLaws .blank-right head (lentLaws .accepted-shape f head (good-read f g)))
 
-  pub listing-fits : length (listingOf f) ≤ 32768
+  in-file : length (between f) ≤ length f
+  unfolding between
+  in-file = part-short f (lengthField f + 12) (widthFrom f (lengthField f))
+
+  pub few-bytes : verdict (programChecks head f) ≡ Good → length (between f) ≤ 65536
+  few-bytes e = omega (arith, ltb-false 65536 (length f) (checkLaws .passed (programChecks head f) e .0), in-file)
+
+  listing-short : verdict (programChecks head f) ≡ Good → length (sessionText head (lengthField f + 12) (between f)) ≤ 65536
+  unfolding sessionIn
+  listing-short e = omega (arith, session-short head (lengthField f + 12) (between f) (partLaws .length-cut (regionOf f) 4 16) (few-bytes e) (session-right (header-good e)))
+
+  pub listing-fits : length (listingOf f) ≤ 65536
   unfolding listingOf
   listing-fits =
-      decided (programChecks head f) (λ (r : Reason). refusedText (numberOf r)) (sessionText head (sessionIn head f)) 32768
-      (λ r. omega (arith, refused-short (numberOf r)))
-      (λ e. omega (arith, session-short head (sessionIn head f) (session-right (header-good e)) (partLaws .length-cut (regionOf f) 4 16)))
+      decided (programChecks head f) (λ (r : Reason). refusedText (numberOf r)) (sessionText head (lengthField f + 12) (between f)) 65536
+      (λ r. omega (arith, refused-short (numberOf r))) listing-short

@@ -14,15 +14,23 @@ use Rattle.sfc.specs.answer.Numbers.{Check, numberOf, reasonOf}
 use Rattle.sfc.specs.answer.Places.{place}
 use Rattle.sfc.specs.session.Marks.{heldCount, barredCount}
 use Rattle.sfc.specs.session.Lent.{Lent, rebuildWrong}
-use Rattle.sfc.specs.session.Session.{Session}
+use Rattle.sfc.specs.session.Session.{Session, blank, after, offered}
+use Rattle.sfc.specs.session.History.{verdicts}
+use Rattle.sfc.specs.session.SessionTheorems.{count}
 use Rattle.sfc.specs.note.Missing.{missing}
 use Rattle.sfc.specs.note.Ranges.{Range, ranges}
 use Rattle.sfc.specs.give.HandOut.{contentChecks, handOut}
+use Rattle.sfc_walk.specs.Walk.{walkOver}
 use Rattle.sfc_listing.specs.Text.{text, digits, decimal, hexDigit, hex, line}
-use Rattle.sfc_listing.specs.Listing.{missingLines, refusedWord, lastWord, startText, sessionText}
-use Rattle.sfc_listing.specs.ListingTheorems.{longer, linesOf, lastOf, lastLine}
+use Rattle.sfc_listing.specs.Listing.{refusedText, brokenText, refusalLine, verdictLine, refusedLine, refusedLines, toldIn, headText, missingLines, refusedWord, lastWord, endText, sessionText}
+use Rattle.sfc_listing.specs.ListingTheorems.{isRefused, longer, linesOf, lastOf, lastLine}
 use Rattle.sfc.specs.declared.format.header.Head.{Head}
 use Rattle.sfc.specs.declared.answer.places.BytePlace.{BytePlace}
+use Rattle.sfc.specs.declared.answer.places.Spot.{Spot}
+use Rattle.sfc.specs.declared.answer.places.Spot.the-variants.{At, Nowhere}
+use Rattle.sfc.specs.declared.answer.reason.Reason.{Reason}
+use Rattle.sfc.specs.declared.session.offer.Verdict.{Verdict}
+use Rattle.sfc.specs.declared.session.offer.Verdict.the-variants.{Fresh, Repeat, Refused as NotTaken}
 use Rattle.sfc.specs.declared.give.hand_out.HandedOut.{HandedOut}
 use Rattle.sfc.specs.declared.give.hand_out.HandedOut.the-variants.{Complete, Refused}
 
@@ -128,18 +136,14 @@ range-plain : (r : Range) → Plain (rangeText r)
 unfolding text any
 range-plain r = and-named (text "missing " ++ decimal (r .first)) (text "-") (r .last) (named (text "missing ") (r .first) refl) refl
 
-start-lines : (uuid : List ℕ) (n m size s held barred : ℕ) (t : List ℕ)
-    → linesOf (startText uuid n m size s held barred ++ t) ≡ uuidText uuid ∷ shapeText n m size s ∷ countsText held barred ∷ linesOf t
-unfolding startText
-start-lines uuid n m size s held barred t =
+head-lines : (uuid : List ℕ) (n m size s : ℕ) (t : List ℕ) → linesOf (headText uuid n m size s ++ t) ≡ uuidText uuid ∷ shapeText n m size s ∷ linesOf t
+unfolding headText
+head-lines uuid n m size s t =
     let a : List ℕ = line (uuidText uuid) in
     let b : List ℕ = line (shapeText n m size s) in
-    let c : List ℕ = line (countsText held barred) in
-    ap linesOf (append-assoc (a ++ b) c t ∙ append-assoc a b (c ++ t))
-    ∙ first-line (uuidText uuid) (b ++ (c ++ t)) (uuid-plain uuid)
-    ∙ ap (λ (ls : List (List ℕ)). uuidText uuid ∷ ls)
-    (first-line (shapeText n m size s) (c ++ t) (shape-plain n m size s)
-    ∙ ap (λ (ls : List (List ℕ)). shapeText n m size s ∷ ls) (first-line (countsText held barred) t (counts-plain held barred)))
+    ap linesOf (append-assoc a b t)
+    ∙ first-line (uuidText uuid) (b ++ t) (uuid-plain uuid)
+    ∙ ap (λ (ls : List (List ℕ)). uuidText uuid ∷ ls) (first-line (shapeText n m size s) t (shape-plain n m size s))
 
 range-lines : (rs : List Range) (t : List ℕ) → linesOf (missingLines rs ++ t) ≡ rangeTexts rs ++ linesOf t
 unfolding missingLines
@@ -148,6 +152,68 @@ range-lines (r ∷ rs) t =
     ap linesOf (append-assoc (line (rangeText r)) (missingLines rs) t)
     ∙ first-line (rangeText r) (missingLines rs ++ t) (range-plain r)
     ∙ ap (λ (ls : List (List ℕ)). rangeText r ∷ ls) (range-lines rs t)
+
+-- ---- the refused lines
+
+abbrev refusalText : ℕ → Reason → Spot → List ℕ
+refusalText at r (At p) = brokenText (numberOf r) (at + p .0)
+refusalText at r Nowhere = text "refused " ++ decimal (numberOf r)
+
+unfoldable pub verdictTexts : ℕ → Verdict → Spot → List (List ℕ)
+verdictTexts at (Fresh i p) s = []
+verdictTexts at (Repeat i p) s = []
+verdictTexts at (NotTaken r) s = refusalText at r s ∷ []
+
+unfoldable pub refusedTexts : Head → Session → ℕ → List (List ℕ) → List (List ℕ)
+refusedTexts h x at [] = []
+refusedTexts h x at (c ∷ cs) = verdictTexts at (offered h x c .verdict) (offered h x c .spot) ++ refusedTexts h (after h x c) (at + length c) cs
+
+refusal-plain : (at : ℕ) (r : Reason) (s : Spot) → Plain (refusalText at r s)
+unfolding text any
+refusal-plain at r (At p) = and-named (text "refused " ++ decimal (numberOf r)) (text " ") (at + p .0) (named (text "refused ") (numberOf r) refl) refl
+refusal-plain at r Nowhere = named (text "refused ") (numberOf r) refl
+
+refusal-line : (at : ℕ) (r : Reason) (s : Spot) → refusalLine at r s ≡ line (refusalText at r s)
+unfolding refusalLine refusedText
+refusal-line at r (At p) = refl
+refusal-line at r Nowhere = refl
+
+verdict-lines : (at : ℕ) (v : Verdict) (s : Spot) (t : List ℕ) → linesOf (verdictLine at v s ++ t) ≡ verdictTexts at v s ++ linesOf t
+unfolding verdictLine verdictTexts
+verdict-lines at (Fresh i p) s t = refl
+verdict-lines at (Repeat i p) s t = refl
+verdict-lines at (NotTaken r) s t = ap (λ (l : List ℕ). linesOf (l ++ t)) (refusal-line at r s) ∙ first-line (refusalText at r s) t (refusal-plain at r s)
+
+refused-lines : (h : Head) (x : Session) (at : ℕ) (cs : List (List ℕ)) (t : List ℕ) → linesOf (refusedLines h x at cs ++ t) ≡ refusedTexts h x at cs ++ linesOf t
+unfolding refusedLines refusedTexts
+refused-lines h x at [] t = refl
+refused-lines h x at (c ∷ cs) t =
+    let o = offered h x c in
+    let rest : List ℕ = refusedLines h (after h x c) (at + length c) cs in
+    let texts : List (List ℕ) = verdictTexts at (o .verdict) (o .spot) in
+    ap linesOf (append-assoc (refusedLine at o) rest t)
+    ∙ verdict-lines at (o .verdict) (o .spot) (rest ++ t)
+    ∙ ap (λ (ls : List (List ℕ)). texts ++ ls) (refused-lines h (after h x c) (at + length c) cs t)
+    ∙ sym (append-assoc texts (refusedTexts h (after h x c) (at + length c) cs) (linesOf t))
+
+verdict-count : (at : ℕ) (v : Verdict) (s : Spot) → length (verdictTexts at v s) ≡ cond (isRefused v) 1 0
+unfolding verdictTexts
+verdict-count at (Fresh i p) s = refl
+verdict-count at (Repeat i p) s = refl
+verdict-count at (NotTaken r) s = refl
+
+-- one for each refusal
+pub texts-count : (h : Head) (x : Session) (at : ℕ) (cs : List (List ℕ)) → length (refusedTexts h x at cs) ≡ count isRefused (verdicts h x cs)
+unfolding refusedTexts verdicts count offered
+texts-count h x at [] = refl
+texts-count h x at (c ∷ cs) =
+    let o = offered h x c in
+    omega (
+      arith,
+      length-append (verdictTexts at (o .verdict) (o .spot)) (refusedTexts h (after h x c) (at + length c) cs),
+      verdict-count at (o .verdict) (o .spot),
+      texts-count h (after h x c) (at + length c) cs,
+    )
 
 -- ---- the last word, and the hand-out's answer, by the two tests of the content
 
@@ -210,26 +276,15 @@ module _ (h : Head) (x : Session) where
   abbrev rs : List Range
   rs = ranges (missing (h .n) (x .marks))
 
-  abbrev before : List (List ℕ)
-  before =
-      uuidText (h .uuid) ∷ shapeText (h .n) (h .m) (h .size) (h .s) ∷ countsText (heldCount (x .marks)) (barredCount (x .marks)) ∷ rangeTexts rs
-
-  session-lines : linesOf (sessionText h x) ≡ before ++ (lastWord h x ∷ [])
-  unfolding sessionText linesOf
-  session-lines =
-      let start : List ℕ = startText (h .uuid) (h .n) (h .m) (h .size) (h .s) (heldCount (x .marks)) (barredCount (x .marks)) in
+  end-lines : linesOf (endText h x) ≡ (countsText (heldCount (x .marks)) (barredCount (x .marks)) ∷ rangeTexts rs) ++ (lastWord h x ∷ [])
+  unfolding endText linesOf
+  end-lines =
+      let counts : List ℕ = countsText (heldCount (x .marks)) (barredCount (x .marks)) in
       let w : List ℕ = lastWord h x in
       let last : linesOf (line w) ≡ w ∷ [] = ap linesOf (sym (append-nil (line w))) ∙ first-line w [] (rw word-is (word-plain few other)) in
-      ap linesOf (append-assoc start (missingLines rs) (line w))
-      ∙ start-lines (h .uuid) (h .n) (h .m) (h .size) (h .s) (heldCount (x .marks)) (barredCount (x .marks)) (missingLines rs ++ line w)
-      ∙ ap (λ (ls : List (List ℕ)). uuidText (h .uuid) ∷ shapeText (h .n) (h .m) (h .size) (h .s) ∷ countsText (heldCount (x .marks)) (barredCount (x .marks)) ∷ ls)
-      (range-lines rs (line w) ∙ ap (λ (ls : List (List ℕ)). rangeTexts rs ++ ls) last)
-
-  pub session-count : length (linesOf (sessionText h x)) ≡ 4 + length rs
-  session-count = ap length session-lines ∙ omega (arith, length-append before (lastWord h x ∷ []), texts-long rs)
-
-  pub session-last : lastLine (sessionText h x) ≡ lastWord h x
-  session-last = ap lastOf session-lines ∙ last-of before (lastWord h x)
+      ap linesOf (append-assoc (line counts) (missingLines rs) (line w))
+      ∙ first-line counts (missingLines rs ++ line w) (counts-plain (heldCount (x .marks)) (barredCount (x .marks)))
+      ∙ ap (λ (ls : List (List ℕ)). counts ∷ ls) (range-lines rs (line w) ∙ ap (λ (ls : List (List ℕ)). rangeTexts rs ++ ls) last)
 
   module _ (l : Lent) (right : rebuildWrong h (x .store) (x .marks) l ≡ false) (room : h .size ≤ length (l .output)) where
     answer-is : handOut h (x .store) (x .marks) l .answer ≡ answerBy (place (h .size)) few other
@@ -238,3 +293,42 @@ module _ (h : Head) (x : Session) where
 
     pub word-exactly : Exactly (lastWord h x) (handOut h (x .store) (x .marks) l .answer) (place (h .size))
     word-exactly = rw (word-is, answer-is) (exactly (place (h .size)) few other)
+
+-- ---- all lines
+
+module _ (h : Head) (at : ℕ) (b : List ℕ) where
+  abbrev session : Session
+  session = walkOver h (blank h) b .session
+
+  abbrev told : List (List ℕ)
+  told = refusedTexts h (blank h) at (toldIn h b)
+
+  abbrev after-told : List (List ℕ)
+  after-told = countsText (heldCount (session .marks)) (barredCount (session .marks)) ∷ rangeTexts (rs h session)
+
+  pub session-lines : linesOf (sessionText h at b) ≡ uuidText (h .uuid) ∷ shapeText (h .n) (h .m) (h .size) (h .s) ∷ (told ++ (after-told ++ (lastWord h session ∷ [])))
+  unfolding sessionText
+  session-lines =
+      let first : List ℕ = headText (h .uuid) (h .n) (h .m) (h .size) (h .s) in
+      let refused : List ℕ = refusedLines h (blank h) at (toldIn h b) in
+      ap linesOf (append-assoc first refused (endText h session))
+      ∙ head-lines (h .uuid) (h .n) (h .m) (h .size) (h .s) (refused ++ endText h session)
+      ∙ ap (λ (ls : List (List ℕ)). uuidText (h .uuid) ∷ shapeText (h .n) (h .m) (h .size) (h .s) ∷ ls)
+      (refused-lines h (blank h) at (toldIn h b) (endText h session) ∙ ap (λ (ls : List (List ℕ)). told ++ ls) (end-lines h session))
+
+  pub session-count : length (linesOf (sessionText h at b)) ≡ 4 + count isRefused (verdicts h (blank h) (toldIn h b)) + length (rs h session)
+  session-count =
+      ap length session-lines
+      ∙ omega (
+        arith,
+        length-append told (after-told ++ (lastWord h session ∷ [])),
+        length-append after-told (lastWord h session ∷ []),
+        texts-count h (blank h) at (toldIn h b),
+        texts-long (rs h session),
+      )
+
+  pub session-last : lastLine (sessionText h at b) ≡ lastWord h session
+  session-last =
+      let before : List (List ℕ) = uuidText (h .uuid) ∷ shapeText (h .n) (h .m) (h .size) (h .s) ∷ (told ++ after-told) in
+      ap lastOf (session-lines ∙ ap (λ (ls : List (List ℕ)). uuidText (h .uuid) ∷ shapeText (h .n) (h .m) (h .size) (h .s) ∷ ls) (sym (append-assoc told after-told (lastWord h session ∷ []))))
+      ∙ last-of before (lastWord h session)

@@ -13,8 +13,13 @@ use Rattle.little.specs.Parts.{part, put}
 use Rattle.little.proofs.Laws.{putLaws, partLaws}
 use Rattle.sfc.specs.note.Ranges.{Range, bounds}
 use Rattle.sfc_listing.specs.Text.{text, digits, decimal, hexDigit, hex, line}
-use Rattle.sfc_listing.specs.Listing.{uuidLine, shapeLine, countsLine, missingLine, missingLines, startText, refusedText}
-use Rattle.sfc_listing.specs.Lines.{rangeLine, boundsLines, Appended, Printed}
+use Rattle.sfc_listing.specs.Listing.{refusedText, refusalLine, verdictLine, uuidLine, shapeLine, countsLine, missingLine, missingLines, headText}
+use Rattle.sfc.specs.answer.Numbers.{numberOf}
+use Rattle.sfc.specs.declared.answer.places.BytePlace.{BytePlace}
+use Rattle.sfc.specs.declared.answer.places.Spot.{Spot}
+use Rattle.sfc.specs.declared.answer.places.Spot.the-variants.{At, Nowhere}
+use Rattle.sfc.specs.declared.answer.reason.Reason.{Reason}
+use Rattle.sfc_listing.specs.Lines.{rangeLine, boundsLines, endRoom, Appended, Printed}
 
 -- first and last of each range make the lines of the ranges
 pub bounds-lines : (rs : List Range) → boundsLines (bounds rs) ≡ missingLines rs
@@ -41,6 +46,10 @@ numbered {xs = xs} name number h p q = rw (append-assoc xs name number) (joined 
 pub within : {a b at r : ℕ} {out after xs : List ℕ} → Appended a out at xs r after → a ≤ b → Appended b out at xs r after
 within p h = record { place = p .place; short = omega (arith, p .short); made = p .made }
 
+-- the output stays as long as it was
+pub appended-long : {a at r : ℕ} {out after xs : List ℕ} → Appended a out at xs r after → at + a ≤ length out → length after ≡ length out
+appended-long {at = at} {out = out} {xs = xs} p h = ap length (p .made) ∙ putLaws .length-put out at xs (omega (arith, p .short))
+
 -- ---- a loop that appends: what is still to come, put at its place, gives the promised output
 
 pub record Appending (most : ℕ) (out₀ : List ℕ) (at₀ : ℕ) (whole rest : List ℕ) (at : ℕ) (out : List ℕ) : Type 0 where
@@ -49,10 +58,10 @@ pub record Appending (most : ℕ) (out₀ : List ℕ) (at₀ : ℕ) (whole rest 
   pub place : at + length rest ≡ at₀ + length whole
   pub all : put out at rest ≡ put out₀ at₀ whole
 
-appending-start : (out : List ℕ) (at : ℕ) (whole : List ℕ) → Appending 0 out at whole whole at out
+pub appending-start : (out : List ℕ) (at : ℕ) (whole : List ℕ) → Appending 0 out at whole whole at out
 appending-start out at whole = record { long = refl; low = omega arith; place = refl; all = refl }
 
-appending-next : {most a at₀ at r : ℕ} {out₀ out after whole xs rest : List ℕ} → at + a ≤ length out
+pub appending-next : {most a at₀ at r : ℕ} {out₀ out after whole xs rest : List ℕ} → at + a ≤ length out
     → Appending most out₀ at₀ whole (xs ++ rest) at out → Appended a out at xs r after → Appending (most + a) out₀ at₀ whole rest r after
 appending-next {at = at} {out = out} {xs = xs} {rest = rest} h f p =
     let fit : at + length xs ≤ length out = omega (arith, p .short) in record {
@@ -62,7 +71,7 @@ appending-next {at = at} {out = out} {xs = xs} {rest = rest} h f p =
       all = ap₂ (λ (o : List ℕ) (k : ℕ). put o k rest) (p .made) (p .place) ∙ putLaws .put-next out at xs rest (omega (arith, fit)) ∙ f .all;
     }
 
-appending-end : {most at₀ at : ℕ} {out₀ out whole : List ℕ} → Appending most out₀ at₀ whole [] at out → Appended most out₀ at₀ whole at out
+pub appending-end : {most at₀ at : ℕ} {out₀ out whole : List ℕ} → Appending most out₀ at₀ whole [] at out → Appended most out₀ at₀ whole at out
 appending-end {at = at} {out = out} f = record {
   place = omega (arith, f .place);
   short = omega (arith, f .place, f .low);
@@ -234,24 +243,41 @@ pub range-made : (first last : ℕ) {at r₁ r₂ r : ℕ} {out o₁ o₂ after 
     → Appended 50 out at (rangeLine first last) r after
 range-made first last h p q e = joined (omega arith) (numbered (text "-") (decimal last) (omega arith) p q) e
 
--- ---- the whole texts, from the output's front
+-- the line of a refusal, with its place and without
+pub placed-made : (own : ℕ) (reason : Reason) (spot : Spot) (p : BytePlace) (number : ℕ) {at r₁ r₂ r : ℕ} {out o₁ o₂ after : List ℕ} → at + 50 ≤ length out
+    → number ≡ numberOf reason → spot ≡ At p → Appended 28 out at (text "refused " ++ decimal number) r₁ o₁ → Appended 21 o₁ r₁ (text " " ++ decimal (own + p .0)) r₂ o₂
+    → Appended 1 o₂ r₂ (10 ∷ []) r after → Appended 50 out at (refusalLine own reason spot) r after
+unfolding refusalLine
+placed-made own reason spot p number h e s a b c = rw (s, ← e) (joined (omega arith) (numbered (text " ") (decimal (own + p .0)) (omega arith) a b) c)
 
-front : {a r : ℕ} {out after xs : List ℕ} → Appended a out 0 xs r after → Printed r out after xs
+pub unplaced-made : (own : ℕ) (reason : Reason) (spot : Spot) (number : ℕ) {at r₁ r : ℕ} {out o₁ after : List ℕ} → at + 50 ≤ length out
+    → number ≡ numberOf reason → spot ≡ Nowhere → Appended 28 out at (text "refused " ++ decimal number) r₁ o₁
+    → Appended 1 o₁ r₁ (10 ∷ []) r after → Appended 50 out at (refusalLine own reason spot) r after
+unfolding refusalLine refusedText
+unplaced-made own reason spot number h e s a c = rw (s, ← e) (within (joined (omega arith) a c) (omega arith))
+
+-- no line
+pub none-made : (out : List ℕ) (at : ℕ) → Appended 50 out at [] at out
+none-made out at = record { place = omega arith; short = omega arith; made = sym (putLaws .put-none out at) }
+
+-- ---- the lines before the refused ones, those after them, and a text from the output's front
+
+pub head-made : (uuid : List ℕ) (n m size s : ℕ) {r₁ r : ℕ} {out o₁ after : List ℕ} → 153 ≤ length out
+    → Appended 42 out 0 (uuidLine uuid) r₁ o₁ → Appended 111 o₁ r₁ (shapeLine n m size s) r after → Appended 153 out 0 (headText uuid n m size s) r after
+unfolding headText
+head-made uuid n m size s h p q = joined (omega arith) p q
+
+pub end-made : (held barred : ℕ) (b word : List ℕ) {at r₁ r₂ r : ℕ} {out o₁ o₂ after : List ℕ}
+    → (at + endRoom ≤ length out) × (length b ≤ 1024) × (length b % 2 ≡ 0)
+    → Appended 54 out at (countsLine held barred) r₁ o₁ → Appended (25 * length b) o₁ r₁ (boundsLines b) r₂ o₂ → Appended 13 o₂ r₂ (line word) r after
+    → Appended endRoom out at (countsLine held barred ++ boundsLines b ++ line word) r after
+end-made held barred b word h p q e = within (joined (omega (arith, h .0, h .1)) (joined (omega (arith, h .0)) p q) e) (omega (arith, h .1))
+
+pub front : {most r : ℕ} {out after xs : List ℕ} → Appended most out 0 xs r after → Printed r out after xs
 front p = (omega (arith, p .place), p .made)
 
-pub refused-made : (number : ℕ) {r₁ r : ℕ} {out o₁ after : List ℕ} → 32768 ≤ length out
+pub refused-made : (number : ℕ) {r₁ r : ℕ} {out o₁ after : List ℕ} → 29 ≤ length out
     → Appended 28 out 0 (text "refused " ++ decimal number) r₁ o₁ → Appended 1 o₁ r₁ (10 ∷ []) r after
     → Printed r out after (refusedText number)
 unfolding refusedText
 refused-made number h p e = front (joined (omega arith) p e)
-
-pub session-made : (uuid : List ℕ) (n m size s held barred : ℕ) (b word : List ℕ) {r₁ r₂ r₃ r₄ r : ℕ} {out o₁ o₂ o₃ o₄ after : List ℕ}
-    → (32768 ≤ length out) × (length b ≤ 1024) × (length b % 2 ≡ 0)
-    → Appended 42 out 0 (uuidLine uuid) r₁ o₁ → Appended 111 o₁ r₁ (shapeLine n m size s) r₂ o₂ → Appended 54 o₂ r₂ (countsLine held barred) r₃ o₃
-    → Appended (25 * length b) o₃ r₃ (boundsLines b) r₄ o₄ → Appended 13 o₄ r₄ (line word) r after
-    → Printed r out after (startText uuid n m size s held barred ++ boundsLines b ++ line word)
-unfolding startText
-session-made uuid n m size s held barred b word h p₁ p₂ p₃ p₄ p₅ =
-    front
-    (joined (omega (arith, h .0, h .1))
-    (joined (omega (arith, h .0)) (joined (omega (arith, h .0)) (joined (omega (arith, h .0)) p₁ p₂) p₃) p₄) p₅)

@@ -6,8 +6,8 @@ use mathlib.Core.Logic.{_↔_}
 use mathlib.Core.Bool.{true, false}
 use mathlib.Core.List.{List, _++_, append-assoc}
 use native.Mathlib.Omega.{arith}
-use borrow.Author.Tests.{eq-eqb, ltb-false}
-use lib.ListN.{length, take, drop, length-append, take-append-drop}
+use borrow.Author.Tests.{eq-eqb}
+use lib.ListN.{length, take, drop, take-append-drop}
 use lib.Seq.{drop-drop}
 use Rattle.little.specs.Parts.{part}
 use Rattle.sfc.specs.answer.Numbers.{numberOf}
@@ -17,18 +17,19 @@ use Rattle.sfc.specs.session.Lent.{Lent, shapeWrong, rebuildWrong}
 use Rattle.sfc.specs.session.Tallies.{sum}
 use Rattle.sfc.specs.session.Session.{blank, verdictOf}
 use Rattle.sfc.specs.session.History.{afterAll, verdicts}
+use Rattle.sfc.specs.session.SessionTheorems.{count}
 use Rattle.sfc.specs.note.Missing.{missing}
 use Rattle.sfc.specs.note.Ranges.{ranges}
 use Rattle.sfc_walk.specs.Walk.{walkOver}
 use Rattle.sfc_walk.specs.WalkTheorems.{steppedOver, each}
 use Rattle.sfc_listing.specs.Listing.{between, sessionIn, lastWord, sessionText, programChecks, refusedText, listingOf}
-use Rattle.sfc_listing.specs.ListingTheorems.{headIn, sessionOfFile, Accepted, offersIn, afterOffers, RoomIn, handedOut, linesOf, lastLine, ListingTheorems}
+use Rattle.sfc_listing.specs.ListingTheorems.{headIn, sessionOfFile, Accepted, offersIn, afterOffers, answersIn, isRefused, RoomIn, handedOut, linesOf, lastLine, ListingTheorems}
 use Rattle.sfc.specs.declared.answer.reason.Reason.{Reason}
 use Rattle.sfc.specs.declared.session.offer.Verdict.the-variants.{Refused}
 use Rattle.sfc.proofs.Laws.{checkLaws, lentLaws}
 use Rattle.sfc_walk.proofs.WalkTheorems.{walk-theorems}
 use Rattle.sfc_listing.proofs.FileLaws.{good-read, trailer-after}
-use Rattle.sfc_listing.proofs.FitLaws.{header-good, session-right}
+use Rattle.sfc_listing.proofs.FitLaws.{header-good, session-right, few-bytes}
 use Rattle.sfc_listing.proofs.LastLine.{Exactly, session-count, session-last, word-exactly}
 
 session-of-offers : (f : List ℕ) → sessionOfFile f ≡ afterAll (headIn f) (blank (headIn f)) (offersIn f)
@@ -66,31 +67,27 @@ module _ (f : List ℕ) (a : Accepted f) where
   shape : shapeWrong (headIn f .size) (headIn f .n) (headIn f .m) (headIn f .s) ≡ false
   shape = lentLaws .accepted-shape f (headIn f) read
 
-  few-bytes : length (between f) ≤ 65536
-  few-bytes =
-      let short = ltb-false 65536 (length f) (checkLaws .passed (programChecks (headIn f) f) a .0) in
-      let front : List ℕ = take 8 f ++ regionOf f in
-      omega (arith, short, ap length file-parts, length-append (front ++ between f) (trailerOf f), length-append front (between f))
-
   offers-answered : each steppedOver (verdicts (headIn f) (blank (headIn f)) (offersIn f)) ≡ true
   unfolding sum
-  offers-answered = walk-theorems .chunks-answered (headIn f) (blank (headIn f)) (between f) (lentLaws .blank-right (headIn f) shape) (omega (arith, few-bytes))
+  offers-answered = walk-theorems .chunks-answered (headIn f) (blank (headIn f)) (between f) (lentLaws .blank-right (headIn f) shape) (omega (arith, few-bytes f a))
 
   offers-end : (r : Reason) × (verdictOf (headIn f) (sessionOfFile f) (afterOffers f) ≡ Refused r) × (30 ≤ numberOf r) × (numberOf r ≤ 32)
   unfolding sum sessionIn walkOver
-  offers-end = walk-theorems .end-answered (headIn f) (blank (headIn f)) (between f) (lentLaws .blank-right (headIn f) shape) (omega (arith, few-bytes))
+  offers-end = walk-theorems .end-answered (headIn f) (blank (headIn f)) (between f) (lentLaws .blank-right (headIn f) shape) (omega (arith, few-bytes f a))
 
   -- ---- its lines
 
-  is-session : listingOf f ≡ sessionText (headIn f) (sessionOfFile f)
+  is-session : listingOf f ≡ sessionText (headIn f) (lengthField f + 12) (between f)
   unfolding listingOf
-  is-session = checkLaws .good-all (λ (r : Reason). refusedText (numberOf r)) (programChecks (headIn f) f) (sessionText (headIn f) (sessionOfFile f)) a
+  is-session = checkLaws .good-all (λ (r : Reason). refusedText (numberOf r)) (programChecks (headIn f) f) (sessionText (headIn f) (lengthField f + 12) (between f)) a
 
-  line-count : length (linesOf (listingOf f)) ≡ 4 + length (ranges (missing (headIn f .n) (sessionOfFile f .marks)))
-  line-count = ap (λ (t : List ℕ). length (linesOf t)) is-session ∙ session-count (headIn f) (sessionOfFile f)
+  line-count : length (linesOf (listingOf f)) ≡ 4 + count isRefused (answersIn f) + length (ranges (missing (headIn f .n) (sessionOfFile f .marks)))
+  unfolding sessionIn
+  line-count = ap (λ (t : List ℕ). length (linesOf t)) is-session ∙ session-count (headIn f) (lengthField f + 12) (between f)
 
   last-is : lastLine (listingOf f) ≡ lastWord (headIn f) (sessionOfFile f)
-  last-is = ap (λ (t : List ℕ). lastLine t) is-session ∙ session-last (headIn f) (sessionOfFile f)
+  unfolding sessionIn
+  last-is = ap (λ (t : List ℕ). lastLine t) is-session ∙ session-last (headIn f) (lengthField f + 12) (between f)
 
   module _ (l : Lent) (room : RoomIn f l) where
     right : rebuildWrong (headIn f) (sessionOfFile f .store) (sessionOfFile f .marks) l ≡ false

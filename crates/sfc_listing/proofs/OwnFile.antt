@@ -3,7 +3,7 @@
 use Prim.Native.Nat.{ℕ, zero, suc, _+_, _-_, _*_, _≤_, _<_}
 use mathlib.Core.Path.{_≡_, refl, sym, ap, ap₂, _∙_}
 use mathlib.Core.Bool.{Bool, true, false, cond}
-use mathlib.Core.List.{List, [], _∷_, _++_, map, append-nil}
+use mathlib.Core.List.{List, [], _∷_, _++_, map, append-assoc, append-nil}
 use native.Mathlib.Decide.{ℕ-discrete}
 use native.Mathlib.Nat.{mul-le-mul, suc-mul}
 use native.Mathlib.Omega.{arith}
@@ -16,29 +16,33 @@ use Rattle.little.specs.Runs.{any, zeros, among}
 use Rattle.sfc.specs.answer.Numbers.{verdict, passes}
 use Rattle.sfc.specs.format.Header.{lengthField, acceptedHeader}
 use Rattle.sfc.specs.format.Chunk.{lengthChecks}
-use Rattle.sfc.specs.answer.Places.{place}
+use Rattle.sfc.specs.answer.Places.{number, place}
 use Rattle.sfc.specs.session.Marks.{isHeld, heldCount, barredCount}
 use Rattle.sfc.specs.session.Session.{Session, blank}
 use Rattle.sfc.specs.session.History.{afterAll}
+use Rattle.sfc.specs.session.SessionTheorems.{count as countOf}
 use Rattle.sfc.specs.note.Missing.{unheldFrom, missing}
 use Rattle.sfc.specs.note.Ranges.{ranges}
 use Rattle.sfc.specs.give.HandOut.{contentChecks, handOutChecks, handOut}
 use Rattle.sfc.specs.session.Lent.{Lent, shapeWrong}
 use Rattle.sfc.specs.writing.Writer.{Input, size, blocks, body, chunk, fileOf, headFor}
-use Rattle.sfc.specs.demand.Demand2.{AllBelow, different, received, Lawful, RoomFor}
-use Rattle.sfc_walk.specs.Walk.{chunksIn, chunksOf, walkOver}
+use Rattle.sfc.specs.demand.Demand2.{AllBelow, different, answers, received, Lawful, RoomFor}
+use Rattle.sfc_walk.specs.Walk.{chunksIn, chunksOf, lengthOfAll, walkOver}
 use Rattle.sfc_listing.specs.Text.{text, line}
-use Rattle.sfc_listing.specs.Listing.{between, sessionIn, missingLines, refusedWord, lastWord, startText, sessionText, listingOf}
+use Rattle.sfc_listing.specs.Listing.{between, refusedLines, toldIn, countsLine, headText, missingLines, refusedWord, lastWord, endText, sessionText, listingOf}
 use Rattle.sfc_listing.specs.Steps.{acceptedText}
+use Rattle.sfc_listing.specs.ListingTheorems.{isRefused}
 use Rattle.sfc_listing.specs.OwnFile.{OwnFile}
 use Rattle.sfc.specs.declared.format.header.Head.{Head}
 use Rattle.sfc.specs.declared.answer.reason.Checked.the-variants.{Good}
+use Rattle.sfc.specs.declared.session.offer.Verdict.the-variants.{Fresh, Repeat}
 use Rattle.sfc.specs.declared.give.hand_out.HandedOut.the-variants.{Complete, Refused}
 use Rattle.sfc.proofs.Laws.{checkLaws, lentLaws, writtenLaws, countLaws}
 use Rattle.sfc.proofs.Theorems.{demand2}
 use Rattle.sfc_walk.proofs.WalkTheorems.{walk-theorems}
 use Rattle.sfc_listing.proofs.FileLaws.{listing-accepted}
 use Rattle.sfc_listing.proofs.ReportLaws.{handOutSeen}
+use Rattle.sfc_listing.proofs.BreakLaws.{none-told, told-chunks}
 
 -- ---- the indices in order
 
@@ -104,11 +108,11 @@ module _ (h : Head) (x : Session) (full : x .marks ≡ replicate (h .n + h .m) 1
   unfolding lastWord
   complete-said = checkLaws .good-all refusedWord (contentChecks h (x .store) (x .marks)) (text "complete") good
 
-  all-said : sessionText h x ≡ startText (h .uuid) (h .n) (h .m) (h .size) (h .s) (h .n + h .m) 0 ++ line (text "complete")
-  unfolding sessionText ranges missingLines
+  all-said : endText h x ≡ countsLine (h .n + h .m) 0 ++ line (text "complete")
+  unfolding endText ranges missingLines
   all-said =
       let barred : barredCount (x .marks) ≡ 0 = ap barredCount full ∙ none-barred (h .n + h .m) in
-      rw (held, barred, none-missing, complete-said, append-nil (startText (h .uuid) (h .n) (h .m) (h .size) (h .s) (h .n + h .m) 0))
+      rw (held, barred, none-missing, complete-said, append-nil (countsLine (h .n + h .m) 0))
 
 -- ---- the chunks of a file
 
@@ -189,8 +193,8 @@ module _ (w : Input) (l : Lawful w) where
 
   -- ---- the session
 
-  is-received : sessionIn (headFor w) (fileOf w) ≡ received w all
-  unfolding sessionIn walkOver
+  is-received : walkOver (headFor w) (blank (headFor w)) chunks .session ≡ received w all
+  unfolding walkOver
   is-received = ap (afterAll (headFor w) (blank (headFor w))) all-chunks
 
   few : length all ≤ 4294967295
@@ -224,15 +228,49 @@ module _ (w : Input) (l : Lawful w) where
       let t = checkLaws .tells handOutSeen Refused (Complete (place (size w))) (λ q. refl) refl (handOutChecks (headFor w) s m d) Good (ap (λ r. handOutSeen (r .answer)) e) in
       checkLaws .all-passed (contentChecks (headFor w) s m) (checkLaws .passed (handOutChecks (headFor w) s m d) t .1 .1)
 
+  -- ---- no chunk is refused, and nothing is left after them
+
+  taken : (seen is : List ℕ) → countOf isRefused (answers w seen is) ≡ 0
+  unfolding countOf answers
+  taken seen [] = refl
+  taken seen (i ∷ is) = go (among i seen) (taken (i ∷ seen) is)
+    where
+      go : (b : Bool) → countOf isRefused (answers w (i ∷ seen) is) ≡ 0
+          → countOf isRefused (cond b (Repeat (number i) (place (i * w .s))) (Fresh (number i) (place (i * w .s))) ∷ answers w (i ∷ seen) is) ≡ 0
+      go true e = omega arith
+      go false e = omega arith
+
+  chunks-length : (is : List ℕ) → lengthOfAll (map (chunk w) is) ≡ length is * width
+  unfolding lengthOfAll
+  chunks-length [] = omega arith
+  chunks-length (i ∷ is) = omega (arith, writtenLaws .length-written w l i, chunks-length is, suc-mul (length is) width)
+
+  none-left : drop (lengthOfAll (chunksOf (headFor w) chunks)) chunks ≡ []
+  none-left =
+      let e : lengthOfAll (chunksOf (headFor w) chunks) ≡ count * width = ap lengthOfAll all-chunks ∙ chunks-length all ∙ ap (λ (k : ℕ). k * width) (up-long 0 count) in
+      drop-of-length-le chunks {i = lengthOfAll (chunksOf (headFor w) chunks)} (omega (arith, chunks-long))
+
+  none-refused : (at : ℕ) → refusedLines (headFor w) (blank (headFor w)) at (toldIn (headFor w) chunks) ≡ []
+  none-refused at =
+      ap (refusedLines (headFor w) (blank (headFor w)) at) (told-chunks (headFor w) chunks none-left ∙ all-chunks)
+      ∙ none-told (headFor w) (blank (headFor w)) at (map (chunk w) all) (ap (countOf isRefused) (demand2 .offers-answered w l all below few) ∙ taken [] all)
+
   -- ---- the listing
 
+  session-said : (at : ℕ) → sessionText (headFor w) at chunks ≡ headText (w .uuid) (blocks w) (w .m) (size w) (w .s) ++ countsLine count 0 ++ line (text "complete")
+  unfolding sessionText
+  session-said at =
+      let first : List ℕ = headText (w .uuid) (blocks w) (w .m) (size w) (w .s) in
+      let e : walkOver (headFor w) (blank (headFor w)) chunks .session ≡ received w all = is-received in
+      rw (none-refused at, e, append-nil first, all-said (headFor w) (received w all) all-marks content-good)
+      (sym (append-assoc first (countsLine count 0) (line (text "complete"))))
+
   own-file-complete : length (fileOf w) ≤ 65536 → count * w .s ≤ 32768
-      → listingOf (fileOf w) ≡ startText (w .uuid) (blocks w) (w .m) (size w) (w .s) count 0 ++ line (text "complete")
+      → listingOf (fileOf w) ≡ headText (w .uuid) (blocks w) (w .m) (size w) (w .s) ++ countsLine count 0 ++ line (text "complete")
   unfolding acceptedText
   own-file-complete short small =
       sym (listing-accepted (fileOf w) short (acceptedHeader (headFor w)) (sym (demand2 .file-read-back w l)) refl .1)
-      ∙ rw (le-ltb 32768 (count * w .s) small)
-      (ap (sessionText (headFor w)) is-received ∙ all-said (headFor w) (received w all) all-marks content-good)
+      ∙ rw (le-ltb 32768 (count * w .s) small) (session-said (lengthField (fileOf w) + 12))
 
 pub own-file : OwnFile
 own-file = record { own-file-complete = own-file-complete }

@@ -1,7 +1,7 @@
--- What a session's listing says: its counts, its missing ranges, its last word, and all of it; and that the memory is as long
--- as the calls want it. Assumes nothing.
+-- What a session's listing says at its end: its counts, its missing ranges, its last word; that the memory is as long as the calls
+-- want it; and all lines together. Assumes nothing.
 use Prim.Native.Nat.{ℕ, _+_, _*_, _%_, _≤_}
-use mathlib.Core.Path.{_≡_, refl, sym, ap, _∙_}
+use mathlib.Core.Path.{_≡_, refl, sym, ap, _∙_, subst}
 use mathlib.Core.Bool.{false}
 use mathlib.Core.List.{List}
 use native.Mathlib.Omega.{arith}
@@ -11,7 +11,6 @@ use lib.Dec.{ltb}
 use lib.ListN.{length, take, drop}
 use lib.Seq.{take-at}
 use Rattle.little.specs.Parts.{put}
-use Rattle.little.specs.Runs.{zeros}
 use Rattle.little.proofs.Laws.{testLaws}
 use Rattle.sfc.specs.answer.Numbers.{Answered, checked, verdict, numberOf}
 use Rattle.sfc.specs.answer.Places.{place}
@@ -22,11 +21,11 @@ use Rattle.sfc.specs.session.Session.{Session, sessionOf, blank, sessionWrong}
 use Rattle.sfc.specs.note.Missing.{missing}
 use Rattle.sfc.specs.note.Ranges.{ranges, boundsFor, listRanges}
 use Rattle.sfc.specs.give.HandOut.{Rebuilding, contentChecks, handOut}
-use Rattle.sfc_walk.specs.Walk.{chunksOf, Walk, walkOf, walkOver}
+use Rattle.sfc_walk.specs.Walk.{chunksOf, walkOver}
 use Rattle.sfc_listing.specs.Text.{text}
-use Rattle.sfc_listing.specs.Listing.{Desk, deskOf, refusedWord, lastWord, sessionText}
-use Rattle.sfc_listing.specs.Lines.{wordOf, sessionLines, Printed}
-use Rattle.sfc_listing.specs.Steps.{Ready}
+use Rattle.sfc_listing.specs.Listing.{Desk, deskOf, refusedWord, lastWord, headText, endText, sessionText}
+use Rattle.sfc_listing.specs.Lines.{wordOf, endLines, endRoom, Appended, Printed}
+use Rattle.sfc_listing.specs.Steps.{Ready, toldRoom, Tellable, OffersTold}
 use Rattle.sfc.specs.declared.format.header.Head.{Head}
 use Rattle.sfc.specs.declared.answer.places.BytePlace.{BytePlace}
 use Rattle.sfc.specs.declared.answer.reason.Reason.{Reason}
@@ -34,7 +33,6 @@ use Rattle.sfc.specs.declared.answer.reason.Checked.{Checked}
 use Rattle.sfc.specs.declared.answer.reason.Checked.the-variants.{Good, Refused}
 use Rattle.sfc.specs.declared.session.marks.MarksCounted.{MarksCounted}
 use Rattle.sfc.specs.declared.session.marks.MarksCounted.the-variants.{Counts, Refused as NotCounted}
-use Rattle.sfc.specs.declared.session.tallies.Tallies.{Tallies}
 use Rattle.sfc.specs.declared.note.missing.Listed.{Listed}
 use Rattle.sfc.specs.declared.note.missing.Listed.the-variants.{Count, Refused as Unlisted}
 use Rattle.sfc.specs.declared.give.hand_out.HandedOut.{HandedOut}
@@ -43,7 +41,7 @@ use Rattle.sfc_listing.specs.declared.lines.LastWord.{LastWord}
 use Rattle.sfc_listing.specs.declared.lines.LastWord.the-variants.{Complete as Whole, HashDiffers, Incomplete}
 use Rattle.sfc.proofs.Laws.{checkLaws, lentLaws, offerLaws}
 use Rattle.sfc.proofs.Theorems.{ranges-few}
-use Rattle.sfc_listing.proofs.LineLaws.{bounds-lines}
+use Rattle.sfc_listing.proofs.LineLaws.{bounds-lines, joined, appended-long, front}
 
 -- ---- what right marks come to
 
@@ -118,7 +116,7 @@ module _ (h : Head) (store marks : List ℕ) (l : Lent) (right : rebuildWrong h 
 
 -- ---- the memory
 
-module _ (h : Head) (d : Desk) (out : List ℕ) (y : Ready h d out) where
+module _ (h : Head) (d : Desk) (y : Ready h d) where
   module _ (lent : lentWrong (h .size) (h .n) (h .m) (h .s) (d .store) (d .marks) ≡ false) where
     pub marks-right : marksWrong (h .size) (h .n) (h .m) (h .s) (d .marks) ≡ false
     unfolding lentWrong
@@ -136,32 +134,19 @@ module _ (h : Head) (d : Desk) (out : List ℕ) (y : Ready h d out) where
         let k : h .n * h .s ≤ (h .n + h .m) * h .s = mul-le-mul {n₁ = h .n} {m₁ = h .s} {n₂ = h .n + h .m} {m₂ = h .s} (omega arith) (omega arith) in
         omega (arith, lentLaws .wanted-holds (h .size) (h .s) (omega (arith, r .shape .s-least)) .1, ap (λ (x : ℕ). x * h .s) (r .shape .wanted), y .few)
 
-  -- store and marks are cleared, and the chunks in b offered
-  module _ (store₁ marks₁ b store marks : List ℕ) (t₀ t : Tallies) (end : ℕ) (cs : store₁ ≡ zeros (length (d .store))) (cm : marks₁ ≡ zeros (length (d .marks)))
-      (ct : t₀ ≡ noTallies) (e : walkOf store marks t end ≡ walkOver h (sessionOf store₁ marks₁ t₀) b) where
+  -- store and marks are those that the chunks in b leave
+  module _ (b store marks : List ℕ) (es : store ≡ walkOver h (blank h) b .session .store) (em : marks ≡ walkOver h (blank h) b .session .marks) where
     abbrev whole : Session
     whole = walkOver h (blank h) b .session
-
-    from-blank : sessionOf store₁ marks₁ t₀ ≡ blank h
-    from-blank = rw (cs, cm, ct, y .store-long, y .marks-long)
-
-    is-whole : sessionOf store marks t ≡ whole
-    is-whole = ap (λ (w : Walk). w .session) e ∙ ap (λ (x : Session). walkOver h x b .session) from-blank
-
-    is-store : store ≡ whole .store
-    is-store = ap (λ (x : Session). x .store) is-whole
-
-    is-marks : marks ≡ whole .marks
-    is-marks = ap (λ (x : Session). x .marks) is-whole
 
     whole-lent : sessionWrong h whole ≡ false
     unfolding walkOver
     whole-lent = offerLaws .stays-lent h (blank h) (chunksOf h b) (lentLaws .blank-right h (y .shape))
 
-    pub ready-walked : Ready h (deskOf store marks (d .scratch) (d .numbers) (d .content) (d .bounds)) out
+    pub ready-walked : Ready h (deskOf store marks (d .scratch) (d .numbers) (d .content) (d .bounds))
         × (lentWrong (h .size) (h .n) (h .m) (h .s) store marks ≡ false)
     ready-walked =
-        let l : lentWrong (h .size) (h .n) (h .m) (h .s) store marks ≡ false = rw (is-store, is-marks) whole-lent in
+        let l : lentWrong (h .size) (h .n) (h .m) (h .s) store marks ≡ false = rw (es, em) whole-lent in
         let r = lentLaws .right-lent (h .size) (h .n) (h .m) (h .s) store marks l in (
           record {
             shape = y .shape;
@@ -172,20 +157,45 @@ module _ (h : Head) (d : Desk) (out : List ℕ) (y : Ready h d out) where
             numbers-long = y .numbers-long;
             content-long = y .content-long;
             bounds-long = y .bounds-long;
-            room = y .room;
           },
           l,
         )
 
-    pub walked-printed : (r : ℕ) (after : List ℕ) → Printed r out after (sessionText h (sessionOf store marks noTallies)) → Printed r out after (sessionText h whole)
-    unfolding sessionText lastWord
-    walked-printed r after p = rw (is-store, is-marks) at p
+    walked-end : endText h (sessionOf store marks noTallies) ≡ endText h whole
+    unfolding endText lastWord
+    walked-end = rw (es, em)
 
 -- ---- the text
 
-pub report-printed : (h : Head) (store marks : List ℕ) (held barred : ℕ) (bs : List ℕ) (last : LastWord) → held ≡ heldCount marks → barred ≡ barredCount marks
-    → bs ≡ boundsFor h marks → wordOf last ≡ lastWord h (sessionOf store marks noTallies) → (r : ℕ) (before after : List ℕ)
-    → Printed r before after (sessionLines (h .uuid) (h .n) (h .m) (h .size) (h .s) held barred bs last)
-    → Printed r before after (sessionText h (sessionOf store marks noTallies))
+-- the place in the output after the lines before the refused ones, and after those
+pub tellable : (h : Head) (d : Desk) → Ready h d → (b : List ℕ) (from : ℕ) {out head : List ℕ} {start : ℕ} → (from + length b ≤ 65536) × (65536 ≤ length out)
+    → Appended 153 out 0 (headText (h .uuid) (h .n) (h .m) (h .size) (h .s)) start head → Tellable h (d .store) (d .marks) b from head start
+tellable h d y b from {out} f p = record {
+  shape = y .shape;
+  store-long = y .store-long;
+  marks-long = y .marks-long;
+  near = f .0;
+  room = omega (arith, f .1, p .place, p .short, appended-long p (omega (arith, f .1)));
+}
+
+pub report-room : {out head told : List ℕ} {start end : ℕ} {xs ys : List ℕ} → 65536 ≤ length out → Appended 153 out 0 xs start head → Appended toldRoom head start ys end told
+    → end + endRoom ≤ length told
+report-room l p q =
+    let e = appended-long p (omega arith) in
+    let f = appended-long q (omega (arith, p .place, p .short)) in
+    omega (arith, p .place, p .short, q .place, q .short)
+
+pub session-printed : (h : Head) (d : Desk) → Ready h d → (b : List ℕ) (from : ℕ) {out head told after store marks : List ℕ} {start end r : ℕ} → 65536 ≤ length out
+    → Appended 153 out 0 (headText (h .uuid) (h .n) (h .m) (h .size) (h .s)) start head → OffersTold h b from head start store marks end told
+    → Appended endRoom told end (endText h (sessionOf store marks noTallies)) r after → Printed r out after (sessionText h from b)
 unfolding sessionText
-report-printed h store marks held barred bs last eh eb es ew r before after p = rw (eh, eb, es, bounds-lines (ranges (missing (h .n) marks)), ew) at p
+session-printed h d y b from {out} {head} {told} {after} {store} {marks} {start} {end} {r} l p o q =
+    let e = subst (λ (t : List ℕ). Appended endRoom told end t r after) (walked-end h d y b store marks (o .store-left) (o .marks-left)) q in
+    front (joined (omega arith) (joined (omega arith) p (o .told)) e)
+
+pub report-printed : (h : Head) (store marks : List ℕ) (held barred : ℕ) (bs : List ℕ) (last : LastWord) → held ≡ heldCount marks → barred ≡ barredCount marks
+    → bs ≡ boundsFor h marks → wordOf last ≡ lastWord h (sessionOf store marks noTallies) → {r at : ℕ} {before after : List ℕ}
+    → Appended endRoom before at (endLines held barred bs last) r after
+    → Appended endRoom before at (endText h (sessionOf store marks noTallies)) r after
+unfolding endText
+report-printed h store marks held barred bs last eh eb es ew p = rw (eh, eb, es, bounds-lines (ranges (missing (h .n) marks)), ew) at p

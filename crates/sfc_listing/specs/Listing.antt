@@ -1,23 +1,27 @@
--- What the program prints for a file (document 01, "Resend note and listing"), and the call that makes it. Assumes nothing:
--- these are definitions.
+-- What the program prints for a file (document 01, "Resend note and listing"; document 02, [4]), and the call that makes it. Assumes
+-- nothing: these are definitions.
 use Prim.Native.Nat.{ℕ, _+_, _-_, _*_}
 use mathlib.Core.Bool.{Bool, cond, not, _||_}
 use mathlib.Core.List.{List, [], _∷_, _++_}
 use lib.Dec.{ltb, eqb}
-use lib.ListN.{length}
+use lib.ListN.{length, drop}
 use Rattle.little.specs.Parts.{part, put}
 use Rattle.little.specs.Runs.{zeros}
 use Rattle.sfc.specs.answer.Numbers.{Check, checked, numberOf}
 use Rattle.sfc.specs.format.Header.{lengthField, regionOf, headOf, headerChecks}
 use Rattle.sfc.specs.session.Marks.{heldCount, barredCount}
-use Rattle.sfc.specs.session.Session.{Session, blank}
+use Rattle.sfc.specs.session.Session.{Session, blank, after, Offered, offered}
 use Rattle.sfc.specs.note.Missing.{missing}
 use Rattle.sfc.specs.note.Ranges.{Range, ranges}
 use Rattle.sfc.specs.give.HandOut.{contentChecks}
-use Rattle.sfc_walk.specs.Walk.{walkOver}
+use Rattle.sfc_walk.specs.Walk.{chunksOf, lengthOfAll, walkOver}
 use Rattle.sfc_listing.specs.Text.{text, decimal, hex, line}
 use Rattle.sfc.specs.declared.format.header.Head.{Head}
 use Rattle.sfc.specs.declared.answer.reason.Reason.{Reason}
+use Rattle.sfc.specs.declared.answer.places.Spot.{Spot}
+use Rattle.sfc.specs.declared.answer.places.Spot.the-variants.{At, Nowhere}
+use Rattle.sfc.specs.declared.session.offer.Verdict.{Verdict}
+use Rattle.sfc.specs.declared.session.offer.Verdict.the-variants.{Fresh, Repeat, Refused as NotTaken}
 use Rattle.sfc.specs.declared.answer.written.Written.{Written}
 use Rattle.sfc.specs.declared.answer.written.Written.the-variants.{Bytes, Refused}
 
@@ -31,9 +35,46 @@ between f = part f (lengthField f + 12) (length f - 64 - (lengthField f + 12))
 unfoldable pub sessionIn : Head → List ℕ → Session
 sessionIn h f = walkOver h (blank h) (between f) .session
 
+-- ---- the refused chunks
+
+unfoldable pub refusedText : ℕ → List ℕ
+refusedText number = line (text "refused " ++ decimal number)
+
+abbrev pub brokenText : ℕ → ℕ → List ℕ
+brokenText number place = text "refused " ++ decimal number ++ text " " ++ decimal place
+
+-- the line of a refusal: `at` is the chunk's own place in the file, to which the place in the chunk is added; the numbers that have
+-- none, 43 and 71, are given to no offer of a listing
+unfoldable pub refusalLine : ℕ → Reason → Spot → List ℕ
+refusalLine at r (At p) = line (brokenText (numberOf r) (at + p .0))
+refusalLine at r Nowhere = refusedText (numberOf r)
+
+-- and of any verdict: what was taken has none
+unfoldable pub verdictLine : ℕ → Verdict → Spot → List ℕ
+verdictLine at (Fresh i p) s = []
+verdictLine at (Repeat i p) s = []
+verdictLine at (NotTaken r) s = refusalLine at r s
+
+abbrev pub refusedLine : ℕ → Offered → List ℕ
+refusedLine at o = verdictLine at (o .verdict) (o .spot)
+
+-- the lines of offers that stand one after the other in the file, in the order met
+unfoldable pub refusedLines : Head → Session → ℕ → List (List ℕ) → List ℕ
+refusedLines h x at [] = []
+refusedLines h x at (c ∷ cs) = refusedLine at (offered h x c) ++ refusedLines h (after h x c) (at + length c) cs
+
+-- the bytes after the last chunk are offered too, where there are any: 30, 31 or 32 refuses them, and nothing comes after them
+unfoldable pub stopIn : List ℕ → List (List ℕ)
+stopIn [] = []
+stopIn (c ∷ cs) = (c ∷ cs) ∷ []
+
+-- all offers whose refusals are told
+unfoldable pub toldIn : Head → List ℕ → List (List ℕ)
+toldIn h b = chunksOf h b ++ stopIn (drop (lengthOfAll (chunksOf h b)) b)
+
 -- ---- the text
 
--- the three lines before the missing ones
+-- the two lines before the refused ones, and the first after them
 abbrev pub uuidLine : List ℕ → List ℕ
 uuidLine uuid = line (text "sfc uuid=" ++ hex uuid)
 
@@ -44,8 +85,8 @@ shapeLine n m size s =
 abbrev pub countsLine : ℕ → ℕ → List ℕ
 countsLine held barred = line (text "held=" ++ decimal held ++ text " barred=" ++ decimal barred)
 
-unfoldable pub startText : List ℕ → ℕ → ℕ → ℕ → ℕ → ℕ → ℕ → List ℕ
-startText uuid n m size s held barred = uuidLine uuid ++ shapeLine n m size s ++ countsLine held barred
+unfoldable pub headText : List ℕ → ℕ → ℕ → ℕ → ℕ → List ℕ
+headText uuid n m size s = uuidLine uuid ++ shapeLine n m size s
 
 abbrev pub missingLine : Range → List ℕ
 missingLine r = line (text "missing " ++ decimal (r .first) ++ text "-" ++ decimal (r .last))
@@ -62,21 +103,27 @@ refusedWord r = cond (eqb (numberOf r) 51) (text "hash differs") (text "incomple
 unfoldable pub lastWord : Head → Session → List ℕ
 lastWord h x = checked (contentChecks h (x .store) (x .marks)) refusedWord (text "complete")
 
-unfoldable pub sessionText : Head → Session → List ℕ
-sessionText h x =
-    startText (h .uuid) (h .n) (h .m) (h .size) (h .s) (heldCount (x .marks)) (barredCount (x .marks))
+-- all that comes after the refused lines: of the session that the chunks leave, which the bytes after them do not change
+unfoldable pub endText : Head → Session → List ℕ
+endText h x =
+    countsLine (heldCount (x .marks)) (barredCount (x .marks))
     ++ missingLines (ranges (missing (h .n) (x .marks)))
     ++ line (lastWord h x)
+
+-- the text for bytes of which the first stands at place `at` of the file
+unfoldable pub sessionText : Head → ℕ → List ℕ → List ℕ
+sessionText h at b =
+    headText (h .uuid) (h .n) (h .m) (h .size) (h .s)
+    ++ refusedLines h (blank h) at (toldIn h b)
+    ++ endText h (walkOver h (blank h) b .session)
 
 -- the file's length first, and the program's limit on the blocks last
 abbrev pub programChecks : Head → List ℕ → List Check
 programChecks h f = (ltb 65536 (length f), 15) ∷ (headerChecks f ++ ((ltb 32768 ((h .n + h .m) * h .s), 15) ∷ []))
 
-unfoldable pub refusedText : ℕ → List ℕ
-refusedText number = line (text "refused " ++ decimal number)
-
 abbrev pub listingFor : Head → List ℕ → List ℕ
-listingFor h f = checked (programChecks h f) (λ (r : Reason). refusedText (numberOf r)) (sessionText h (sessionIn h f))
+listingFor h f =
+    checked (programChecks h f) (λ (r : Reason). refusedText (numberOf r)) (sessionText h (lengthField f + 12) (between f))
 
 unfoldable pub listingOf : List ℕ → List ℕ
 listingOf f = listingFor (headOf (regionOf f)) f
@@ -119,7 +166,7 @@ cleared d = record {
 
 -- 52: less room than any listing takes up at most
 abbrev pub roomyText : ℕ
-roomyText = 32768
+roomyText = 65536
 
 abbrev pub listingChecks : Desk → List ℕ → List Check
 listingChecks d out = (deskWrong d, 71) ∷ (ltb (length out) roomyText, 52) ∷ []

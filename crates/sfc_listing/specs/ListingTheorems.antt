@@ -4,7 +4,7 @@
 use Prim.Native.Nat.{ℕ, _+_, _*_, _≤_}
 use mathlib.Core.Path.{_≡_}
 use mathlib.Core.Logic.{_↔_}
-use mathlib.Core.Bool.{true, cond}
+use mathlib.Core.Bool.{Bool, true, false, cond}
 use mathlib.Core.List.{List, [], _∷_, _++_}
 use lib.Dec.{eqb}
 use lib.ListN.{length, take, drop}
@@ -14,17 +14,19 @@ use Rattle.sfc.specs.format.Header.{regionOf, trailerOf, headOf}
 use Rattle.sfc.specs.session.Lent.{Lent}
 use Rattle.sfc.specs.session.Session.{Session, blank, verdictOf}
 use Rattle.sfc.specs.session.History.{afterAll, verdicts}
+use Rattle.sfc.specs.session.SessionTheorems.{count}
 use Rattle.sfc.specs.note.Missing.{missing}
 use Rattle.sfc.specs.note.Ranges.{ranges}
 use Rattle.sfc.specs.give.HandOut.{handOut}
 use Rattle.sfc_walk.specs.Walk.{chunksOf, lengthOfAll}
 use Rattle.sfc_walk.specs.WalkTheorems.{steppedOver, each}
 use Rattle.sfc_listing.specs.Text.{text}
-use Rattle.sfc_listing.specs.Listing.{between, sessionIn, programChecks, listingOf}
+use Rattle.sfc_listing.specs.Listing.{between, sessionIn, toldIn, programChecks, listingOf}
 use Rattle.sfc.specs.declared.format.header.Head.{Head}
 use Rattle.sfc.specs.declared.answer.reason.Reason.{Reason}
 use Rattle.sfc.specs.declared.answer.reason.Checked.the-variants.{Good}
-use Rattle.sfc.specs.declared.session.offer.Verdict.the-variants.{Refused}
+use Rattle.sfc.specs.declared.session.offer.Verdict.{Verdict}
+use Rattle.sfc.specs.declared.session.offer.Verdict.the-variants.{Fresh, Repeat, Refused}
 use Rattle.sfc.specs.declared.give.hand_out.HandedOut.{HandedOut}
 use Rattle.sfc.specs.declared.give.hand_out.HandedOut.the-variants.{Complete, Refused as NotHandedOut}
 
@@ -47,6 +49,15 @@ offersIn f = chunksOf (headIn f) (between f)
 
 abbrev pub afterOffers : List ℕ → List ℕ
 afterOffers f = drop (lengthOfAll (offersIn f)) (between f)
+
+-- what each offer answers whose refusal is told: each chunk, and what is left after them, if that is a byte at least
+abbrev pub answersIn : List ℕ → List Verdict
+answersIn f = verdicts (headIn f) (blank (headIn f)) (toldIn (headIn f) (between f))
+
+abbrev pub isRefused : Verdict → Bool
+isRefused (Fresh i p) = false
+isRefused (Repeat i p) = false
+isRefused (Refused r) = true
 
 -- memory for the hand-out of its session
 pub record RoomIn (f : List ℕ) (l : Lent) : Type 0 where
@@ -89,9 +100,10 @@ pub record ListingTheorems : Type 0 where
   -- What comes after the last one would be refused by 30, 31 or 32; where that is the trailer, nothing is left, and it is 30.
   pub offers-end : (f : List ℕ) → Accepted f
       → (r : Reason) × (verdictOf (headIn f) (sessionOfFile f) (afterOffers f) ≡ Refused r) × (30 ≤ numberOf r) × (numberOf r ≤ 32)
-  -- A line for each missing range, three before them, and the last.
+  -- Two lines, one for each refusal, the counts, one for each missing range, and the last.
   pub line-count : (f : List ℕ) → Accepted f
-      → length (linesOf (listingOf f)) ≡ 4 + length (ranges (missing (headIn f .n) (sessionOfFile f .marks)))
+      → length (linesOf (listingOf f))
+      ≡ 4 + count isRefused (answersIn f) + length (ranges (missing (headIn f .n) (sessionOfFile f .marks)))
   -- The last line says what the hand-out answers, whatever memory of the right size it is lent: `complete` exactly where it gives
   -- the content,
   pub last-line-complete : (f : List ℕ) → Accepted f → (l : Lent) → RoomIn f l

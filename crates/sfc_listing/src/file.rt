@@ -79,7 +79,7 @@ fn list_accepted(
     bounds: &mut [u32],
     out: &mut [u8],
 ) -> usize
-    requires { ⌜ (readHeader (now file) ≡ acceptedHeader h) × (deskWrong (deskOf (now store) (now marks) (now scratch) (now numbers) (now content) (now bounds)) ≡ false) × (32768 ≤ length (now out)) ⌝ }
+    requires { ⌜ (readHeader (now file) ≡ acceptedHeader h) × (length (now file) ≤ 65536) × (deskWrong (deskOf (now store) (now marks) (now scratch) (now numbers) (now content) (now bounds)) ≡ false) × (65536 ≤ length (now out)) ⌝ }
     ensures { λ r. ⌜ Printed r (now (out .entry)) (now (out .exit)) (acceptedText h (now (file .entry))) ⌝ }
 {
     let blocks = h.n as usize + h.m as usize;
@@ -93,6 +93,7 @@ fn list_accepted(
     list_session(
         h,
         &file[from..end],
+        from,
         &mut store[..bytes],
         &mut marks[..blocks],
         &mut scratch[..rebuilt],
@@ -114,7 +115,7 @@ fn list_file(
     bounds: &mut [u32],
     out: &mut [u8],
 ) -> usize
-    requires { ⌜ (deskWrong (deskOf (now store) (now marks) (now scratch) (now numbers) (now content) (now bounds)) ≡ false) × (32768 ≤ length (now out)) ⌝ }
+    requires { ⌜ (deskWrong (deskOf (now store) (now marks) (now scratch) (now numbers) (now content) (now bounds)) ≡ false) × (65536 ≤ length (now out)) ⌝ }
     ensures { λ r. ⌜ Printed r (now (out .entry)) (now (out .exit)) (listingOf (now (file .entry))) ⌝ }
 {
     if FILE_MOST < file.len() {

@@ -1,6 +1,7 @@
 // The listing of an SFC file: what a program prints for any bytes that are offered as one.
 mod file;
 mod lines;
+mod refusals;
 mod room;
 mod session;
 

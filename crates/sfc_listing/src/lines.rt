@@ -1,11 +1,15 @@
 // The listing's text, piece by piece: each piece is put at a place of the output, and the place after it comes back.
+use sfc::Reason;
+use sfc::Spot;
+use sfc::Verdict;
+use sfc::number_of;
 ghost use mathlib.Core.Path.{_≡_};
 ghost use mathlib.Core.List.{_++_};
 ghost use Prim.Native.Nat.{_+_, _*_, _%_, _<_, _≤_};
 ghost use lib.ListN.{length};
 ghost use Rattle.sfc_listing.specs.Text.{decimal, hexDigit, hex, line};
-ghost use Rattle.sfc_listing.specs.Listing.{uuidLine, shapeLine, countsLine, refusedText};
-ghost use Rattle.sfc_listing.specs.Lines.{wordOf, rangeLine, boundsLines, sessionLines, Appended, Printed};
+ghost use Rattle.sfc_listing.specs.Listing.{refusedText, refusalLine, verdictLine, uuidLine, shapeLine, countsLine, headText};
+ghost use Rattle.sfc_listing.specs.Lines.{wordOf, rangeLine, boundsLines, endLines, endRoom, Appended, Printed};
 
 // How the hand-out ends.
 pub(crate) enum LastWord {
@@ -139,33 +143,68 @@ fn put_word(last: LastWord, out: &mut [u8], at: usize) -> usize
 
 // The one line of a file that is refused.
 pub(crate) fn put_refused(number: u8, out: &mut [u8]) -> usize
-    requires { ⌜ 32768 ≤ length (now out) ⌝ }
+    requires { ⌜ 29 ≤ length (now out) ⌝ }
     ensures { λ r. ⌜ Printed r (now (out .entry)) (now (out .exit)) (refusedText number) ⌝ }
 {
     let end = put_value(b"refused ", number as u64, out, 0);
     put_text(b"\n", out, end)
 }
 
-// The lines of a session; `bounds` has first and last of each missing range, one after the other. There is room: 512 lines
-// of at most 50 bytes each, and 220 more.
-pub(crate) fn put_session(
-    uuid: [u8; 16],
-    size: u64,
-    n: u32,
-    m: u32,
-    s: u32,
+// A refused chunk's line; `own` is the chunk's own place in the file.
+fn put_refusal(reason: Reason, spot: Spot, own: usize, out: &mut [u8], at: usize) -> usize
+    requires { ⌜ (own ≤ 65536) × (at + 50 ≤ length (now out)) ⌝ }
+    ensures { λ r. ⌜ Appended 50 (now (out .entry)) at (refusalLine own reason spot) r (now (out .exit)) ⌝ }
+{
+    let after = put_value(b"refused ", number_of(reason) as u64, out, at);
+    match spot {
+        Spot::At(place) => {
+            let end = put_value(b" ", own as u64 + place.0 as u64, out, after);
+            put_text(b"\n", out, end)
+        }
+        Spot::Nowhere => put_text(b"\n", out, after),
+    }
+}
+
+// What was taken has no line.
+pub(crate) fn put_verdict(
+    verdict: Verdict,
+    spot: Spot,
+    own: usize,
+    out: &mut [u8],
+    at: usize,
+) -> usize
+    requires { ⌜ (own ≤ 65536) × (at + 50 ≤ length (now out)) ⌝ }
+    ensures { λ r. ⌜ Appended 50 (now (out .entry)) at (verdictLine own verdict spot) r (now (out .exit)) ⌝ }
+{
+    match verdict {
+        Verdict::Fresh(_, _) => at,
+        Verdict::Repeat(_, _) => at,
+        Verdict::Refused(reason) => put_refusal(reason, spot, own, out, at),
+    }
+}
+
+// The lines before the refused ones.
+pub(crate) fn put_head(uuid: [u8; 16], size: u64, n: u32, m: u32, s: u32, out: &mut [u8]) -> usize
+    requires { ⌜ 153 ≤ length (now out) ⌝ }
+    ensures { λ r. ⌜ Appended 153 (now (out .entry)) 0 (headText uuid n m size s) r (now (out .exit)) ⌝ }
+{
+    let shape = put_uuid(uuid, out, 0);
+    put_shape(n, m, size, s, out, shape)
+}
+
+// The lines after them; `bounds` has first and last of each missing range, one after the other.
+pub(crate) fn put_end(
     held: usize,
     barred: usize,
     bounds: &[u32],
     last: LastWord,
     out: &mut [u8],
+    at: usize,
 ) -> usize
-    requires { ⌜ (32768 ≤ length (now out)) × (length (now bounds) ≤ 1024) × (length (now bounds) % 2 ≡ 0) ⌝ }
-    ensures { λ r. ⌜ Printed r (now (out .entry)) (now (out .exit)) (sessionLines uuid n m size s held barred (now (bounds .entry)) last) ⌝ }
+    requires { ⌜ (at + endRoom ≤ length (now out)) × (length (now bounds) ≤ 1024) × (length (now bounds) % 2 ≡ 0) ⌝ }
+    ensures { λ r. ⌜ Appended endRoom (now (out .entry)) at (endLines held barred (now (bounds .entry)) last) r (now (out .exit)) ⌝ }
 {
-    let shape = put_uuid(uuid, out, 0);
-    let counts = put_shape(n, m, size, s, out, shape);
-    let missing = put_counts(held, barred, out, counts);
+    let missing = put_counts(held, barred, out, at);
     let end = put_missing(bounds, out, missing);
     put_word(last, out, end)
 }

@@ -1,29 +1,28 @@
-// The session of a listing: the chunks of a file are offered one after the other, and what they came to is told.
+// The session of a listing: what the chunks of a file came to.
 use crate::lines::LastWord;
-use crate::lines::put_session;
+use crate::lines::put_end;
+use crate::lines::put_head;
+use crate::refusals::tell_offers;
 use crate::room::HASH_DIFFERS;
 use sfc::HandedOut;
 use sfc::Head;
 use sfc::Listed;
 use sfc::MarksCounted;
-use sfc::Tallies;
 use sfc::count_marks;
 use sfc::hand_out;
 use sfc::list_ranges;
 use sfc::number_of;
-use sfc_walk::offer_chunks;
 ghost use mathlib.Core.Path.{_≡_};
 ghost use mathlib.Core.Bool.{false};
-ghost use Prim.Native.Nat.{_%_, _≤_};
+ghost use Prim.Native.Nat.{_+_, _%_, _≤_};
 ghost use lib.ListN.{length, take};
 ghost use Rattle.sfc.specs.session.Lent.{lentOf, marksWrong, lentWrong, rebuildWrong};
 ghost use Rattle.sfc.specs.session.Marks.{heldCount, barredCount};
-ghost use Rattle.sfc.specs.session.Session.{sessionOf, blank};
+ghost use Rattle.sfc.specs.session.Session.{sessionOf};
 ghost use Rattle.sfc.specs.session.Tallies.{noTallies};
 ghost use Rattle.sfc.specs.note.Ranges.{boundsFor};
-ghost use Rattle.sfc_walk.specs.Walk.{walkOver};
-ghost use Rattle.sfc_listing.specs.Listing.{deskOf, lastWord, sessionText};
-ghost use Rattle.sfc_listing.specs.Lines.{wordOf, Printed};
+ghost use Rattle.sfc_listing.specs.Listing.{deskOf, lastWord, endText, sessionText};
+ghost use Rattle.sfc_listing.specs.Lines.{wordOf, endRoom, Appended, Printed};
 ghost use Rattle.sfc_listing.specs.Steps.{Ready};
 
 // How many indices are held, and how many barred.
@@ -81,7 +80,7 @@ fn last_word(
     }
 }
 
-// The listing of a session as it stands.
+// The end of the listing: what is told of a session as it stands.
 fn report(
     h: Head,
     store: &[u8],
@@ -91,32 +90,23 @@ fn report(
     content: &mut [u8],
     bounds: &mut [u32],
     out: &mut [u8],
+    at: usize,
 ) -> usize
-    requires { ⌜ Ready h (deskOf (now store) (now marks) (now scratch) (now numbers) (now content) (now bounds)) (now out) × (lentWrong (h .size) (h .n) (h .m) (h .s) (now store) (now marks) ≡ false) ⌝ }
-    ensures { λ r. ⌜ Printed r (now (out .entry)) (now (out .exit)) (sessionText h (sessionOf (now (store .entry)) (now (marks .entry)) noTallies)) ⌝ }
+    requires { ⌜ Ready h (deskOf (now store) (now marks) (now scratch) (now numbers) (now content) (now bounds)) × (lentWrong (h .size) (h .n) (h .m) (h .s) (now store) (now marks) ≡ false) × (at + endRoom ≤ length (now out)) ⌝ }
+    ensures { λ r. ⌜ Appended endRoom (now (out .entry)) at (endText h (sessionOf (now (store .entry)) (now (marks .entry)) noTallies)) r (now (out .exit)) ⌝ }
 {
-    let uuid = h.uuid;
     let counts = counts_of(h, marks);
     let count = bounds_of(h, marks, bounds);
     let last = last_word(h, store, marks, scratch, numbers, content);
-    put_session(
-        uuid,
-        h.size,
-        h.n,
-        h.m,
-        h.s,
-        counts.held,
-        counts.barred,
-        &bounds[..count],
-        last,
-        out,
-    )
+    put_end(counts.held, counts.barred, &bounds[..count], last, out, at)
 }
 
-// The listing of the session that the chunks of an accepted header make.
+// The listing of the session that the chunks of an accepted header make; the first of them stands at place `from` of the file. All
+// lines fit: 153 bytes, the refused ones, and the end.
 pub(crate) fn list_session(
     h: Head,
     chunks: &[u8],
+    from: usize,
     store: &mut [u8],
     marks: &mut [u8],
     scratch: &mut [u8],
@@ -125,11 +115,11 @@ pub(crate) fn list_session(
     bounds: &mut [u32],
     out: &mut [u8],
 ) -> usize
-    requires { ⌜ Ready h (deskOf (now store) (now marks) (now scratch) (now numbers) (now content) (now bounds)) (now out) ⌝ }
-    ensures { λ r. ⌜ Printed r (now (out .entry)) (now (out .exit)) (sessionText h (walkOver h (blank h) (now (chunks .entry)) .session)) ⌝ }
+    requires { ⌜ Ready h (deskOf (now store) (now marks) (now scratch) (now numbers) (now content) (now bounds)) × (from + length (now chunks) ≤ 65536) × (65536 ≤ length (now out)) ⌝ }
+    ensures { λ r. ⌜ Printed r (now (out .entry)) (now (out .exit)) (sessionText h from (now (chunks .entry))) ⌝ }
 {
-    little::clear8(store);
-    little::clear8(marks);
-    offer_chunks(h, Tallies::new(), store, marks, chunks);
-    report(h, store, marks, scratch, numbers, content, bounds, out)
+    let uuid = h.uuid;
+    let start = put_head(uuid, h.size, h.n, h.m, h.s, out);
+    let end = tell_offers(h, chunks, from, store, marks, out, start);
+    report(h, store, marks, scratch, numbers, content, bounds, out, end)
 }

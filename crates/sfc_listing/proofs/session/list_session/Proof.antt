@@ -1,36 +1,29 @@
--- `sfc_listing::session::list_session` meets its contract: from zeros, over all chunks, to the report. Assumes nothing.
-use mathlib.Core.Path.{_∙_}
+-- `sfc_listing::session::list_session` meets its contract: the lines before the walk, those of the walk, and the end. Assumes nothing.
 use Rattle.sfc_listing.specs.Listing.{deskOf}
-use Rattle.sfc_listing.proofs.ReportLaws.{ready-walked, walked-printed}
+use Rattle.sfc_listing.proofs.ReportLaws.{ready-walked, tellable, report-room, session-printed}
 use borrow.Author.Needs.{needs}
 use Rattle.sfc_listing.proofs.session.list_session.Statement.{statement}
 use Rattle.sfc_listing.proofs.session.list_session.Tie as tie
 
+tell-offers-requires : tie.Need-tell-offers-requires
+tell-offers-requires c κs =
+    let s = c .before .before .before .before .before .before .before .before .before .before .before .before .before .before .before .before in
+    let a = s .args in
+    tellable (a .h) (deskOf (a .store .now) (a .marks .now) (a .scratch .now) (a .numbers .now) (a .content .now) (a .bounds .now)) (s .pre .0) (a .chunks .now) (a .from) (s .pre .1, s .pre .2) (c .before .before .before .before .before .put-head .ensures)
+
 report-requires : tie.Need-report-requires
 report-requires c κs =
-    let s = c .before .before .before .before .before .before .before .before .before .before .before .before .before .before .before .before .before .before .before .before .before .before .before .before .before .before .before .before .before .before .before in
+    let s = c .before .before .before .before .before .before .before .before .before .before .before .before .before .before .before .before .before .before .before .before .before .before .before .before .before .before .before .before .before .before in
     let a = s .args in
-    ready-walked (a .h) (deskOf (a .store .now) (a .marks .now) (a .scratch .now) (a .numbers .now) (a .content .now) (a .bounds .now)) (a .out .now) (s .pre)
-    _ _ (a .chunks .now) _ _ _ _ _
-    (c .before .before .before .before .before .before .before .before .before .before .before .before .before .before .before .before .before .before .before .before .before .clear8 .ensures)
-    (c .before .before .before .before .before .before .before .before .before .before .before .before .before .before .before .before .before .clear82 .ensures) (c .before .before .before .before .before .before .before .before .before .before .before .before .before .before .new .ensures)
-    (c .before .before .before .before .before .before .before .before .before .before .before .offer-chunks .ensures)
-
-same-length : tie.Need-same-length
-same-length c = c .before .before .before .before .before .before .before .before .before .before .before .before .before .before .before .before .before .before .before .before .before .before .offer-chunks .kept .1 .1 .0 ∙ c .before .before .before .before .before .before .before .before .before .before .before .before .before .before .before .before .before .before .before .before .before .before .before .before .before .before .before .before .before .before .before .before .clear8 .kept .0
-
-same-length-2 : tie.Need-same-length-2
-same-length-2 c = c .before .before .before .before .before .before .before .before .before .before .before .before .before .before .before .before .before .before .before .before .before .before .offer-chunks .kept .1 .1 .1 .0 ∙ c .before .before .before .before .before .before .before .before .before .before .before .before .before .before .before .before .before .before .before .before .before .before .before .before .before .before .before .before .clear82 .kept .0
+    let t = c .before .before .before .before .before .before .before .before .before .before .before .before .before .tell-offers .ensures in
+    let w = ready-walked (a .h) (deskOf (a .store .now) (a .marks .now) (a .scratch .now) (a .numbers .now) (a .content .now) (a .bounds .now)) (s .pre .0) (a .chunks .now) _ _ (t .store-left) (t .marks-left) in
+    (w .0, w .1, report-room (s .pre .2) (c .before .before .before .before .before .before .before .before .before .before .before .before .before .before .before .before .before .before .before .put-head .ensures) (t .told))
 
 returns : tie.Need-returns
 returns c =
-    let s = c .before .before .before .before .before .before .before .before .before .before .before .before .before .before .before .before .before .before .before .before .before .before .before .before .before .before .before .before .before .before .before .before .before .before .before .before .before .before .before .before .before .before in
+    let s = c .before .before .before .before .before .before .before .before .before .before .before .before .before .before .before .before .before .before .before .before .before .before .before .before .before .before .before .before .before .before .before .before .before .before .before .before .before .before .before .before .before in
     let a = s .args in
-    walked-printed (a .h) (deskOf (a .store .now) (a .marks .now) (a .scratch .now) (a .numbers .now) (a .content .now) (a .bounds .now)) (a .out .now) (s .pre)
-    _ _ (a .chunks .now) _ _ _ _ _
-    (c .before .before .before .before .before .before .before .before .before .before .before .before .before .before .before .before .before .before .before .before .before .before .before .before .before .before .before .before .before .before .before .before .clear8 .ensures)
-    (c .before .before .before .before .before .before .before .before .before .before .before .before .before .before .before .before .before .before .before .before .before .before .before .before .before .before .before .before .clear82 .ensures) (c .before .before .before .before .before .before .before .before .before .before .before .before .before .before .before .before .before .before .before .before .before .before .before .before .before .new .ensures)
-    (c .before .before .before .before .before .before .before .before .before .before .before .before .before .before .before .before .before .before .before .before .before .before .offer-chunks .ensures) _ _
+    session-printed (a .h) (deskOf (a .store .now) (a .marks .now) (a .scratch .now) (a .numbers .now) (a .content .now) (a .bounds .now)) (s .pre .0) (a .chunks .now) (a .from) (s .pre .2) (c .before .before .before .before .before .before .before .before .before .before .before .before .before .before .before .before .before .before .before .before .before .before .before .before .before .before .before .before .before .before .put-head .ensures) (c .before .before .before .before .before .before .before .before .before .before .before .before .before .before .before .before .before .before .before .before .before .before .before .before .tell-offers .ensures)
     (c .before .before .before .before .before .before .before .before .before .before .report .ensures)
 
 pub list-session-spec : {M : Type 1} → statement M
@@ -38,12 +31,10 @@ list-session-spec =
     tie.close
     (tie.spec
     (λ c κs. search needs)
-    (λ c κs. search needs)
-    (λ c κs. search needs)
-    (λ c κs. search needs)
+    tell-offers-requires
     report-requires
-    same-length
-    same-length-2
+    (λ c. search needs)
+    (λ c. search needs)
     (λ c. search needs)
     (λ c. search needs)
     (λ c. search needs)
