@@ -1,5 +1,5 @@
--- What the program prints for a file (document 01, "Resend note and listing"; document 02, [4]), and the call that makes it. Assumes
--- nothing: these are definitions.
+-- What the program prints for a file (document 01, "Resend note and listing"; document 02, [4]), and the call that makes it.
+-- Assumes nothing: these are definitions.
 use Prim.Native.Nat.{ℕ, _+_, _-_, _*_}
 use mathlib.Core.Bool.{Bool, cond, not, _||_}
 use mathlib.Core.List.{List, [], _∷_, _++_}

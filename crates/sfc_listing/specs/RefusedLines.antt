@@ -6,16 +6,14 @@ use mathlib.Core.List.{List, [], _∷_, _++_, map}
 use lib.ListN.{length, take, drop}
 use Rattle.sfc.specs.answer.Numbers.{numberOf}
 use Rattle.sfc.specs.format.Header.{lengthField}
-use Rattle.sfc.specs.session.Session.{Session, blank, verdictOf, after, offered}
-use Rattle.sfc.specs.session.History.{afterAll, verdicts}
+use Rattle.sfc.specs.session.Session.{Session, blank, after, offered}
+use Rattle.sfc.specs.session.History.{verdicts}
 use Rattle.sfc.specs.session.SessionTheorems.{count}
-use Rattle.sfc_walk.specs.Walk.{lengthOfAll}
 use Rattle.sfc_walk.specs.WalkTheorems.{concat}
 use Rattle.sfc_listing.specs.Listing.{between, brokenText, toldIn, headText, endText, listingOf}
-use Rattle.sfc_listing.specs.ListingTheorems.{headIn, sessionOfFile, Accepted, offersIn, afterOffers, answersIn, isRefused, linesOf}
+use Rattle.sfc_listing.specs.ListingTheorems.{headIn, sessionOfFile, Accepted, offersIn, afterOffers}
+use Rattle.sfc_listing.specs.ListingTheorems.{answersIn, isRefused, linesOf}
 use Rattle.sfc.specs.declared.format.header.Head.{Head}
-use Rattle.sfc.specs.declared.answer.reason.Reason.{Reason}
-use Rattle.sfc.specs.declared.answer.places.BytePlace.{BytePlace}
 use Rattle.sfc.specs.declared.answer.places.Spot.{Spot}
 use Rattle.sfc.specs.declared.answer.places.Spot.the-variants.{At, Nowhere}
 use Rattle.sfc.specs.declared.session.offer.Verdict.{Verdict}
@@ -54,6 +52,7 @@ pub record RefusedLines : Type 0 where
   -- and none is left out: there are as many as offers that are refused.
   pub all-told : (f : List ℕ) → Accepted f → length (breaksOf f) ≡ count isRefused (answersIn f)
   -- Where each chunk is fresh or a repeat, and the trailer comes right after the last, the listing has no such line.
-  pub none-refused : (f : List ℕ) → Accepted f → count isRefused (verdicts (headIn f) (blank (headIn f)) (offersIn f)) ≡ 0 → afterOffers f ≡ []
+  pub none-refused : (f : List ℕ) → Accepted f → count isRefused (verdicts (headIn f) (blank (headIn f)) (offersIn f)) ≡ 0
+      → afterOffers f ≡ []
       → listingOf f
       ≡ headText (headIn f .uuid) (headIn f .n) (headIn f .m) (headIn f .size) (headIn f .s) ++ endText (headIn f) (sessionOfFile f)

@@ -48,8 +48,8 @@ fn tell_offer(
     }
 }
 
-// As `sfc_walk::offer_chunks`, with the refusals told on the way: how a chunk is answered hangs on those before it. The first byte has
-// place `from` in the file.
+// As `sfc_walk::offer_chunks`, with the refusals told on the way: how a chunk is answered hangs on those before it. The first byte
+// has place `from` in the file.
 fn tell_chunks(
     h: Head,
     tallies: Tallies,

@@ -19,8 +19,8 @@ pub const CONTENT: usize = BLOCKS_MOST;
 
 pub const BOUNDS: usize = 1024;
 
-// Room for any listing: a refused line of at most 50 bytes for each 84 of the file, 512 missing ranges of at most 50 bytes each, and
-// 270 bytes more.
+// Room for any listing: a refused line of at most 50 bytes for each 84 of the file, 512 missing ranges of at most 50 bytes each,
+// and 270 bytes more.
 pub const TEXT: usize = 65536;
 
 // H, the region's length, stands at this place, and counts the bytes after itself; the chunks come after them.

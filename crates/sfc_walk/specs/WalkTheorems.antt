@@ -44,8 +44,8 @@ pub record WalkTheorems : Type 0 where
   pub no-chunk : (h : Head) (b : List ℕ) (most : ℕ) → passes (measureChecks h b) ≡ false → chunksIn most h b ≡ []
   pub next-chunk : (h : Head) (b : List ℕ) (most : ℕ) → 0 < most → passes (measureChecks h b) ≡ true
       → chunksIn most h b ≡ take (chunkLength b) b ∷ chunksIn (most - 1) h (drop (chunkLength b) b)
-  -- The same step by the length that `length_at_front` tells: where it is 0 there is no chunk; else the first is so long, 84 bytes at
-  -- least, and the others are those of the bytes after it.
+  -- The same step by the length that `length_at_front` tells: where it is 0 there is no chunk; else the first is so long, 84 bytes
+  -- at least, and the others are those of the bytes after it.
   pub front-none : (h : Head) (b : List ℕ) → frontLength h b ≡ 0 → chunksOf h b ≡ []
   pub front-next : (h : Head) (b : List ℕ) → frontLength h b ≢ 0
       → (chunksOf h b ≡ take (frontLength h b) b ∷ chunksOf h (drop (frontLength h b) b))
