@@ -13,19 +13,19 @@ use sfc::measure_chunk;
 use sfc::number_of;
 
 // What a sweep finds: the number of the refusal and the word for its place, and 0 alone for a whole chunk.
-struct Answer {
+struct Finding {
     number: u8,
     word: u64,
 }
 
-fn answer(head: Head, chunk: &[u8], here: usize) -> Answer {
+fn answer(head: Head, chunk: &[u8], here: usize) -> Finding {
     let checked = check_chunk(head, chunk);
     match checked {
-        ChunkChecked::Refused(reason, spot) => Answer {
+        ChunkChecked::Refused(reason, spot) => Finding {
             number: number_of(reason),
             word: run::word_for(spot, here as u64),
         },
-        ChunkChecked::Whole(_, _) => Answer {
+        ChunkChecked::Whole(_, _) => Finding {
             number: 0,
             word: run::ALONE,
         },
@@ -57,7 +57,7 @@ fn measure(head: Head, chunk: &[u8]) {
 }
 
 // The answer with one byte changed, and the chunk sealed if that is asked for.
-fn changed_answer(head: Head, chunk: &mut [u8], at: usize, mask: u8, sealed: bool) -> Answer {
+fn changed_answer(head: Head, chunk: &mut [u8], at: usize, mask: u8, sealed: bool) -> Finding {
     let old = little::byte_at(chunk, at);
     edit::set_byte(chunk, at, old ^ mask);
     if !sealed {
@@ -83,7 +83,7 @@ fn sweep_bytes(head: Head, chunk: &mut [u8], mask: u8, sealed: bool) {
     run.end(end as u64);
 }
 
-fn prefix_answer(head: Head, chunk: &[u8], length: usize) -> Answer {
+fn prefix_answer(head: Head, chunk: &[u8], length: usize) -> Finding {
     let end = little::within8(length, chunk);
     answer(head, &chunk[..end], length)
 }
