@@ -17,13 +17,14 @@ use Rattle.sfc.specs.session.History.{afterAll, verdicts}
 use Rattle.sfc.specs.session.SessionTheorems.{count}
 use Rattle.sfc_walk.specs.Walk.{chunksOf, lengthOfAll}
 use Rattle.sfc_walk.specs.WalkTheorems.{concat}
-use Rattle.sfc_listing.specs.Listing.{verdictLine, refusedLines, stopIn, toldIn}
+use Rattle.sfc_listing.specs.Listing.{brokenText, verdictLine, refusedLines, stopIn, toldIn}
 use Rattle.sfc_listing.specs.ListingTheorems.{isRefused}
 use Rattle.sfc_listing.specs.RefusedLines.{breakText, breakOf, breaksIn}
 use Rattle.sfc.specs.declared.format.header.Head.{Head}
 use Rattle.sfc.specs.declared.answer.reason.Reason.{Reason}
 use Rattle.sfc.specs.declared.answer.reason.Checked.{Checked}
 use Rattle.sfc.specs.declared.answer.reason.Checked.the-variants.{Good, Refused as Wrong}
+use Rattle.sfc.specs.declared.answer.places.BytePlace.{BytePlace}
 use Rattle.sfc.specs.declared.answer.places.Spot.{Spot}
 use Rattle.sfc.specs.declared.answer.places.Spot.the-variants.{At, Nowhere}
 use Rattle.sfc.specs.declared.session.offer.Verdict.{Verdict}
@@ -98,17 +99,29 @@ module _ (h : Head) (x : Session) (c : List ℕ) (lent : sessionWrong h x ≡ fa
   unfolding offered
   is-verdict = refl
 
+  -- so the offer says where
+  pub has-place : (r : Reason) → verdictOf h x c ≡ Refused r → (p : BytePlace) × (offered h x c .spot ≡ At p)
+  has-place r e = go (offered h x c .spot) refl
+    where
+      go : (s : Spot) → offered h x c .spot ≡ s → (p : BytePlace) × (offered h x c .spot ≡ At p)
+      go (At p) es = (p, es)
+      go Nowhere es =
+          let n = number-low r e in
+          absurd (⊎-elim (λ k. omega arith) (λ k. omega arith) (place-table .no-place h c r Nowhere (inr (x, is-verdict ∙ e, es)) .0 refl))
+
   placed : (at : ℕ) → verdictTexts at (offered h x c .verdict) (offered h x c .spot) ≡ map breakText (breakOf at (offered h x c .verdict) (offered h x c .spot))
   unfolding verdictTexts breakOf
-  placed at = go (offered h x c .verdict) (offered h x c .spot) refl refl
+  placed at = go (offered h x c .verdict) refl
     where
-      go : (v : Verdict) (s : Spot) → offered h x c .verdict ≡ v → offered h x c .spot ≡ s → verdictTexts at v s ≡ map breakText (breakOf at v s)
-      go (Fresh i p) s ev es = refl
-      go (Repeat i p) s ev es = refl
-      go (Refused r) (At p) ev es = refl
-      go (Refused r) Nowhere ev es =
-          let n = number-low r (sym is-verdict ∙ ev) in
-          absurd (⊎-elim (λ k. omega arith) (λ k. omega arith) (place-table .no-place h c r Nowhere (inr (x, ev, es)) .0 refl))
+      go : (v : Verdict) → offered h x c .verdict ≡ v → verdictTexts at v (offered h x c .spot) ≡ map breakText (breakOf at v (offered h x c .spot))
+      go (Fresh i p) ev = refl
+      go (Repeat i p) ev = refl
+      go (Refused r) ev = rw (has-place r (sym is-verdict ∙ ev) .1) refl
+
+  pub one-text : (at : ℕ) (r : Reason) → verdictOf h x c ≡ Refused r → (p : BytePlace) → offered h x c .spot ≡ At p
+      → verdictTexts at (offered h x c .verdict) (offered h x c .spot) ≡ brokenText (numberOf r) (at + p .0) ∷ []
+  unfolding verdictTexts
+  one-text at r e p es = rw (is-verdict, e, es)
 
 pub all-placed : (h : Head) (x : Session) (at : ℕ) (cs : List (List ℕ)) → sessionWrong h x ≡ false → total (x .tallies) + length cs ≤ 4294967295
     → refusedTexts h x at cs ≡ map breakText (breaksIn h x at cs)
@@ -119,6 +132,19 @@ all-placed h x at (c ∷ cs) l s =
     ap₂ (λ (u v : List (List ℕ)). u ++ v) (placed h x c l (offerLaws .not-full (x .tallies) (omega arith)) at)
     (all-placed h (after h x c) (at + length c) cs (one-offer .lent-stays h x c l) (omega (arith, offerLaws .total-all h x (c ∷ []))))
     ∙ sym (map-append breakText (breakOf at (o .verdict) (o .spot)) (breaksIn h (after h x c) (at + length c) cs))
+
+-- the texts of offers and of others after them
+pub texts-append : (h : Head) (x : Session) (at : ℕ) (cs ds : List (List ℕ))
+    → refusedTexts h x at (cs ++ ds) ≡ refusedTexts h x at cs ++ refusedTexts h (afterAll h x cs) (at + lengthOfAll cs) ds
+unfolding refusedTexts afterAll lengthOfAll
+texts-append h x at [] ds = let z : at ≡ at + 0 = omega arith in ap (λ (k : ℕ). refusedTexts h x k ds) z
+texts-append h x at (c ∷ cs) ds =
+    let z : at + length c + lengthOfAll cs ≡ at + (length c + lengthOfAll cs) = omega arith in
+    let texts : List (List ℕ) = verdictTexts at (offered h x c .verdict) (offered h x c .spot) in
+    ap (λ (l : List (List ℕ)). texts ++ l)
+    (texts-append h (after h x c) (at + length c) cs ds
+    ∙ ap (λ (k : ℕ). refusedTexts h (after h x c) (at + length c) cs ++ refusedTexts h (afterAll h (after h x c) cs) k ds) z)
+    ∙ sym (append-assoc texts (refusedTexts h (after h x c) (at + length c) cs) (refusedTexts h (afterAll h (after h x c) cs) (at + (length c + lengthOfAll cs)) ds))
 
 -- the offers that are told are no more than the bytes, and one
 pub told-few : (h : Head) (b : List ℕ) → length (toldIn h b) ≤ length b + 1

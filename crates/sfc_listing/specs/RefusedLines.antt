@@ -3,17 +3,20 @@
 use Prim.Native.Nat.{ℕ, _+_}
 use mathlib.Core.Path.{_≡_}
 use mathlib.Core.List.{List, [], _∷_, _++_, map}
-use lib.ListN.{length, take, drop}
+use lib.ListN.{length, getD, take, drop}
 use Rattle.sfc.specs.answer.Numbers.{numberOf}
 use Rattle.sfc.specs.format.Header.{lengthField}
-use Rattle.sfc.specs.session.Session.{Session, blank, after, offered}
-use Rattle.sfc.specs.session.History.{verdicts}
+use Rattle.sfc.specs.session.Session.{Session, blank, verdictOf, after, offered}
+use Rattle.sfc.specs.session.History.{afterAll, verdicts}
 use Rattle.sfc.specs.session.SessionTheorems.{count}
+use Rattle.sfc_walk.specs.Walk.{lengthOfAll}
 use Rattle.sfc_walk.specs.WalkTheorems.{concat}
 use Rattle.sfc_listing.specs.Listing.{between, brokenText, toldIn, headText, endText, listingOf}
 use Rattle.sfc_listing.specs.ListingTheorems.{headIn, sessionOfFile, Accepted, offersIn, afterOffers}
 use Rattle.sfc_listing.specs.ListingTheorems.{answersIn, isRefused, linesOf}
 use Rattle.sfc.specs.declared.format.header.Head.{Head}
+use Rattle.sfc.specs.declared.answer.reason.Reason.{Reason}
+use Rattle.sfc.specs.declared.answer.places.BytePlace.{BytePlace}
 use Rattle.sfc.specs.declared.answer.places.Spot.{Spot}
 use Rattle.sfc.specs.declared.answer.places.Spot.the-variants.{At, Nowhere}
 use Rattle.sfc.specs.declared.session.offer.Verdict.{Verdict}
@@ -51,6 +54,13 @@ pub record RefusedLines : Type 0 where
       → take (length (breaksOf f)) (drop 2 (linesOf (listingOf f))) ≡ map breakText (breaksOf f)
   -- and none is left out: there are as many as offers that are refused.
   pub all-told : (f : List ℕ) → Accepted f → length (breaksOf f) ≡ count isRefused (answersIn f)
+  -- The same of one offer: where c is refused after the offers cs, the offer says where in c, and the line comes after two and one
+  -- for each refusal before it. With no line more than `line-count` says, these are all.
+  pub each-told : (f : List ℕ) → Accepted f → (cs ds : List (List ℕ)) (c : List ℕ) (r : Reason)
+      → toldIn (headIn f) (between f) ≡ cs ++ (c ∷ ds) → verdictOf (headIn f) (afterAll (headIn f) (blank (headIn f)) cs) c ≡ Refused r
+      → (p : BytePlace) × (offered (headIn f) (afterAll (headIn f) (blank (headIn f)) cs) c .spot ≡ At p)
+      × (getD (linesOf (listingOf f)) (2 + count isRefused (verdicts (headIn f) (blank (headIn f)) cs)) []
+      ≡ brokenText (numberOf r) (lengthField f + 12 + lengthOfAll cs + p .0))
   -- Where each chunk is fresh or a repeat, and the trailer comes right after the last, the listing has no such line.
   pub none-refused : (f : List ℕ) → Accepted f → count isRefused (verdicts (headIn f) (blank (headIn f)) (offersIn f)) ≡ 0
       → afterOffers f ≡ []
