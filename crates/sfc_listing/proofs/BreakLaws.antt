@@ -7,7 +7,7 @@ use mathlib.Core.Bool.{Bool, true, false, cond}
 use mathlib.Core.List.{List, [], _∷_, _++_, map, map-append, append-assoc, append-nil}
 use native.Mathlib.Omega.{arith}
 use lib.Dec.{eqb, lit≤}
-use lib.ListN.{length, length-append, length-map, take, drop, take-append-drop}
+use lib.ListN.{length, length-append, drop, take-append-drop}
 use Rattle.sfc.specs.answer.Numbers.{Check, numberOf}
 use Rattle.sfc.specs.answer.Places.{number, place}
 use Rattle.sfc.specs.format.Chunk.{indexOf, chunkChecks}
@@ -32,7 +32,7 @@ use Rattle.sfc.specs.declared.session.offer.Verdict.the-variants.{Fresh, Repeat
 use Rattle.sfc.proofs.Laws.{checkLaws, offerLaws}
 use Rattle.sfc.proofs.Theorems.{one-offer, place-table}
 use Rattle.sfc_walk.proofs.WalkTheorems.{walk-theorems}
-use Rattle.sfc_listing.proofs.LastLine.{verdictTexts, refusedTexts, texts-count}
+use Rattle.sfc_listing.proofs.LastLine.{verdictTexts, refusedTexts}
 
 -- ---- no line where nothing is refused
 

@@ -231,6 +231,10 @@ module _ (f : List ℕ) where
   pub few-bytes : verdict (programChecks head f) ≡ Good → length (between f) ≤ 65536
   few-bytes e = omega (arith, ltb-false 65536 (length f) (checkLaws .passed (programChecks head f) e .0), in-file)
 
+  pub is-session : verdict (programChecks head f) ≡ Good → listingOf f ≡ sessionText head (lengthField f + 12) (between f)
+  unfolding listingOf
+  is-session = checkLaws .good-all (λ (r : Reason). refusedText (numberOf r)) (programChecks head f) (sessionText head (lengthField f + 12) (between f))
+
   listing-short : verdict (programChecks head f) ≡ Good → length (sessionText head (lengthField f + 12) (between f)) ≤ 65536
   unfolding sessionIn
   listing-short e = omega (arith, session-short head (lengthField f + 12) (between f) (partLaws .length-cut (regionOf f) 4 16) (few-bytes e) (session-right (header-good e)))

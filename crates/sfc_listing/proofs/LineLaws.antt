@@ -13,7 +13,7 @@ use Rattle.little.specs.Parts.{part, put}
 use Rattle.little.proofs.Laws.{putLaws, partLaws}
 use Rattle.sfc.specs.note.Ranges.{Range, bounds}
 use Rattle.sfc_listing.specs.Text.{text, digits, decimal, hexDigit, hex, line}
-use Rattle.sfc_listing.specs.Listing.{refusedText, refusalLine, verdictLine, uuidLine, shapeLine, countsLine, missingLine, missingLines, headText}
+use Rattle.sfc_listing.specs.Listing.{refusedText, refusalLine, uuidLine, shapeLine, countsLine, missingLine, missingLines, headText}
 use Rattle.sfc.specs.answer.Numbers.{numberOf}
 use Rattle.sfc.specs.declared.answer.places.BytePlace.{BytePlace}
 use Rattle.sfc.specs.declared.answer.places.Spot.{Spot}

@@ -22,14 +22,14 @@ use Rattle.sfc.specs.note.Missing.{missing}
 use Rattle.sfc.specs.note.Ranges.{ranges}
 use Rattle.sfc_walk.specs.Walk.{walkOver}
 use Rattle.sfc_walk.specs.WalkTheorems.{steppedOver, each}
-use Rattle.sfc_listing.specs.Listing.{between, sessionIn, lastWord, sessionText, programChecks, refusedText, listingOf}
+use Rattle.sfc_listing.specs.Listing.{between, sessionIn, lastWord, listingOf}
 use Rattle.sfc_listing.specs.ListingTheorems.{headIn, sessionOfFile, Accepted, offersIn, afterOffers, answersIn, isRefused, RoomIn, handedOut, linesOf, lastLine, ListingTheorems}
 use Rattle.sfc.specs.declared.answer.reason.Reason.{Reason}
 use Rattle.sfc.specs.declared.session.offer.Verdict.the-variants.{Refused}
-use Rattle.sfc.proofs.Laws.{checkLaws, lentLaws}
+use Rattle.sfc.proofs.Laws.{lentLaws}
 use Rattle.sfc_walk.proofs.WalkTheorems.{walk-theorems}
 use Rattle.sfc_listing.proofs.FileLaws.{good-read, trailer-after}
-use Rattle.sfc_listing.proofs.FitLaws.{header-good, session-right, few-bytes}
+use Rattle.sfc_listing.proofs.FitLaws.{header-good, session-right, few-bytes, is-session}
 use Rattle.sfc_listing.proofs.LastLine.{Exactly, session-count, session-last, word-exactly}
 
 session-of-offers : (f : List ℕ) → sessionOfFile f ≡ afterAll (headIn f) (blank (headIn f)) (offersIn f)
@@ -77,17 +77,13 @@ module _ (f : List ℕ) (a : Accepted f) where
 
   -- ---- its lines
 
-  is-session : listingOf f ≡ sessionText (headIn f) (lengthField f + 12) (between f)
-  unfolding listingOf
-  is-session = checkLaws .good-all (λ (r : Reason). refusedText (numberOf r)) (programChecks (headIn f) f) (sessionText (headIn f) (lengthField f + 12) (between f)) a
-
   line-count : length (linesOf (listingOf f)) ≡ 4 + count isRefused (answersIn f) + length (ranges (missing (headIn f .n) (sessionOfFile f .marks)))
   unfolding sessionIn
-  line-count = ap (λ (t : List ℕ). length (linesOf t)) is-session ∙ session-count (headIn f) (lengthField f + 12) (between f)
+  line-count = ap (λ (t : List ℕ). length (linesOf t)) (is-session f a) ∙ session-count (headIn f) (lengthField f + 12) (between f)
 
   last-is : lastLine (listingOf f) ≡ lastWord (headIn f) (sessionOfFile f)
   unfolding sessionIn
-  last-is = ap (λ (t : List ℕ). lastLine t) is-session ∙ session-last (headIn f) (lengthField f + 12) (between f)
+  last-is = ap (λ (t : List ℕ). lastLine t) (is-session f a) ∙ session-last (headIn f) (lengthField f + 12) (between f)
 
   module _ (l : Lent) (room : RoomIn f l) where
     right : rebuildWrong (headIn f) (sessionOfFile f .store) (sessionOfFile f .marks) l ≡ false

@@ -13,7 +13,7 @@ use Rattle.sfc.specs.session.Session.{Session, blank, sessionWrong, verdictOf, 
 use Rattle.sfc.specs.session.History.{afterAll, verdicts}
 use Rattle.sfc.specs.session.SessionTheorems.{count}
 use Rattle.sfc_walk.specs.Walk.{lengthOfAll}
-use Rattle.sfc_listing.specs.Listing.{between, sessionIn, brokenText, refusedLines, toldIn, headText, endText, sessionText, programChecks, refusedText, listingOf}
+use Rattle.sfc_listing.specs.Listing.{between, sessionIn, brokenText, refusedLines, toldIn, headText, endText, sessionText, listingOf}
 use Rattle.sfc_listing.specs.ListingTheorems.{headIn, sessionOfFile, Accepted, offersIn, afterOffers, answersIn, isRefused, linesOf}
 use Rattle.sfc_listing.specs.RefusedLines.{breakText, breaksOf, RefusedLines}
 use Rattle.sfc.specs.declared.format.header.Head.{Head}
@@ -21,9 +21,9 @@ use Rattle.sfc.specs.declared.answer.reason.Reason.{Reason}
 use Rattle.sfc.specs.declared.answer.places.BytePlace.{BytePlace}
 use Rattle.sfc.specs.declared.answer.places.Spot.the-variants.{At}
 use Rattle.sfc.specs.declared.session.offer.Verdict.the-variants.{Refused}
-use Rattle.sfc.proofs.Laws.{checkLaws, lentLaws, offerLaws}
+use Rattle.sfc.proofs.Laws.{lentLaws, offerLaws}
 use Rattle.sfc_listing.proofs.FileLaws.{good-read}
-use Rattle.sfc_listing.proofs.FitLaws.{header-good, few-bytes}
+use Rattle.sfc_listing.proofs.FitLaws.{header-good, few-bytes, is-session}
 use Rattle.sfc_listing.proofs.LastLine.{refusedTexts, texts-count, session-lines}
 use Rattle.sfc_listing.proofs.BreakLaws.{none-told, told-chunks, told-joined, has-place, one-text, all-placed, texts-append, told-few}
 
@@ -35,10 +35,6 @@ text-at ls first w more rest n e l =
     ∙ getD-at first w (more ++ rest) [] n l
 
 module _ (f : List ℕ) (a : Accepted f) where
-  is-session : listingOf f ≡ sessionText (headIn f) (lengthField f + 12) (between f)
-  unfolding listingOf
-  is-session = checkLaws .good-all (λ (r : Reason). refusedText (numberOf r)) (programChecks (headIn f) f) (sessionText (headIn f) (lengthField f + 12) (between f)) a
-
   blank-right : sessionWrong (headIn f) (blank (headIn f)) ≡ false
   blank-right = lentLaws .blank-right (headIn f) (lentLaws .accepted-shape f (headIn f) (good-read f (header-good f a)))
 
@@ -55,7 +51,7 @@ module _ (f : List ℕ) (a : Accepted f) where
 
   lines-exact : take (length (breaksOf f)) (drop 2 (linesOf (listingOf f))) ≡ map breakText (breaksOf f)
   lines-exact =
-      let e = ap linesOf is-session ∙ session-lines (headIn f) (lengthField f + 12) (between f) in
+      let e = ap linesOf (is-session f a) ∙ session-lines (headIn f) (lengthField f + 12) (between f) in
       ap (λ (ls : List (List ℕ)). take (length (breaksOf f)) (drop 2 ls)) e
       ∙ take-at _ _ (length (breaksOf f)) (ap length told ∙ length-map (breaksOf f) breakText) ∙ told
 
@@ -83,7 +79,7 @@ module _ (f : List ℕ) (a : Accepted f) where
         = ap (refusedTexts h (blank h) (lengthField f + 12)) et ∙ texts-append h (blank h) (lengthField f + 12) cs (c ∷ ds)
         ∙ ap (λ (l : List (List ℕ)). first ++ (l ++ refusedTexts h (after h before c) (own + length c) ds)) (one-text h before c (offerLaws .stays-lent h (blank h) cs blank-right) few-before own r ev p ep) in
         let k : 2 + count isRefused (verdicts h (blank h) cs) ≡ suc (suc (count isRefused (verdicts h (blank h) cs))) = omega arith in
-        ap₂ (λ (ls : List (List ℕ)) (n : ℕ). getD ls n []) (ap linesOf is-session ∙ session-lines h (lengthField f + 12) (between f)) k
+        ap₂ (λ (ls : List (List ℕ)) (n : ℕ). getD ls n []) (ap linesOf (is-session f a) ∙ session-lines h (lengthField f + 12) (between f)) k
         ∙ text-at _ first _ _ _ _ t (texts-count h (blank h) (lengthField f + 12) cs)
 
     each-told : verdictOf (headIn f) before c ≡ Refused r
@@ -100,7 +96,7 @@ module _ (f : List ℕ) (a : Accepted f) where
       let first : List ℕ = headText (headIn f .uuid) (headIn f .n) (headIn f .m) (headIn f .size) (headIn f .s) in
       let none : refusedLines (headIn f) (blank (headIn f)) (lengthField f + 12) (toldIn (headIn f) (between f)) ≡ []
       = ap (refusedLines (headIn f) (blank (headIn f)) (lengthField f + 12)) (told-chunks (headIn f) (between f) e) ∙ none-told (headIn f) (blank (headIn f)) (lengthField f + 12) (offersIn f) n in
-      is-session ∙ ap (λ (l : List ℕ). first ++ l ++ endText (headIn f) (sessionOfFile f)) none ∙ ap (λ (l : List ℕ). l ++ endText (headIn f) (sessionOfFile f)) (append-nil first)
+      is-session f a ∙ ap (λ (l : List ℕ). first ++ l ++ endText (headIn f) (sessionOfFile f)) none ∙ ap (λ (l : List ℕ). l ++ endText (headIn f) (sessionOfFile f)) (append-nil first)
 
 pub refused-lines : RefusedLines
 refused-lines = record {

@@ -11,7 +11,7 @@ use Rattle.little.specs.Runs.{zeros}
 use Rattle.sfc.specs.answer.Numbers.{numberOf}
 use Rattle.sfc.specs.session.Lent.{shapeWrong}
 use Rattle.sfc.specs.session.Tallies.{noTallies, sum}
-use Rattle.sfc.specs.session.Session.{Session, sessionOf, blank, sessionWrong, verdictOf, after, Offered, offered}
+use Rattle.sfc.specs.session.Session.{Session, sessionOf, blank, verdictOf, after, Offered, offered}
 use Rattle.sfc.specs.session.History.{afterAll}
 use Rattle.sfc.specs.session.SessionTheorems.{SameKept}
 use Rattle.sfc.specs.declared.format.header.Head.{Head}
