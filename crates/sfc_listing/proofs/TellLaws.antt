@@ -52,17 +52,13 @@ lines-append h x at (c ∷ cs) ds =
     ∙ ap (λ (k : ℕ). refusedLines h (after h x c) (at + length c) cs ++ refusedLines h (afterAll h (after h x c) cs) k ds) z)
     ∙ sym (append-assoc line (refusedLines h (after h x c) (at + length c) cs) (refusedLines h (afterAll h (after h x c) cs) (at + (length c + lengthOfAll cs)) ds))
 
--- the session that an offer leaves
-session-left : (h : Head) (x : Session) (c : List ℕ) → offered h x c .session ≡ after h x c
-unfolding offered
-session-left h x c = refl
-
 -- what the call of an offer and its line come to
 pub offer-told : (h : Head) (x : Session) (c : List ℕ) (own : ℕ) {out put : List ℕ} {at r : ℕ} (y : Session) (v : Verdict) (s : Spot)
     → _≡_ {A = Offered} (record { session = y; verdict = v; spot = s }) (offered h x c) → Appended 50 out at (verdictLine own v s) r put
     → OfferTold h x c own out at y r put
+unfolding offered
 offer-told h x c own {out} {put} {at} {r} y v s e p = record {
-  left = ap (λ (o : Offered). o .session) e ∙ session-left h x c;
+  left = ap (λ (o : Offered). o .session) e;
   told = subst (λ (l : List ℕ). Appended 50 out at l r put) (ap (refusedLine own) e) p;
 }
 

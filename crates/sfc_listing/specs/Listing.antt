@@ -43,7 +43,7 @@ refusedText number = line (text "refused " ++ decimal number)
 abbrev pub brokenText : ℕ → ℕ → List ℕ
 brokenText number place = text "refused " ++ decimal number ++ text " " ++ decimal place
 
--- the line of a refusal: `at` is the chunk's own place in the file, to which the place in the chunk is added; the numbers that have
+-- the line of a refusal: `at` is where the chunk begins in the file, to which the place in the chunk is added; the numbers that have
 -- none, 43 and 71, are given to no offer of a listing
 unfoldable pub refusalLine : ℕ → Reason → Spot → List ℕ
 refusalLine at r (At p) = line (brokenText (numberOf r) (at + p .0))

@@ -150,7 +150,7 @@ pub(crate) fn put_refused(number: u8, out: &mut [u8]) -> usize
     put_text(b"\n", out, end)
 }
 
-// A refused chunk's line; `own` is the chunk's own place in the file.
+// A refused chunk's line; `own` is where the chunk begins in the file.
 fn put_refusal(reason: Reason, spot: Spot, own: usize, out: &mut [u8], at: usize) -> usize
     requires { ⌜ (own ≤ 65536) × (at + 50 ≤ length (now out)) ⌝ }
     ensures { λ r. ⌜ Appended 50 (now (out .entry)) at (refusalLine own reason spot) r (now (out .exit)) ⌝ }

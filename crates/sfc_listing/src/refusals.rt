@@ -23,7 +23,7 @@ struct Told {
     to: usize,
 }
 
-// `own` is the chunk's own place in the file.
+// An offer, and its line where it is refused; `own` is where the chunk begins in the file.
 fn tell_offer(
     h: Head,
     tallies: Tallies,
