@@ -10,7 +10,7 @@ use lib.Dec.{eqb, ltb}
 use lib.ListN.{length, take}
 use lib.Seq.{length-take-le}
 use Rattle.little.specs.Parts.{part}
-use Rattle.little.proofs.Laws.{testLaws, partLaws}
+use Rattle.little.proofs.Laws.{testLaws}
 use Rattle.little.specs.Runs.{zeros}
 use Rattle.sfc.specs.answer.Numbers.{verdict, numberOf}
 use Rattle.sfc.specs.format.Header.{lengthField, regionOf, headOf, headerChecks, refusedHeader, acceptedHeader, readHeader}
@@ -117,10 +117,6 @@ module _ (h : Head) (f : List ℕ) (e : readHeader f ≡ acceptedHeader h) where
   -- region and trailer lie apart
   pub trailer-after : lengthField f + 76 ≤ length f
   trailer-after = ltb-false (length f) (lengthField f + 76) (checkLaws .passed (headerChecks f) (told f (acceptedHeader h) Good (sym e) refl) .1 .1 .1 .1 .0)
-
-  -- and the bytes between them end before the trailer
-  pub chunks-near : length f ≤ 65536 → (field : ℕ) → field ≡ lengthField f → field + 12 + length (part f (field + 12) (widthFrom f field)) ≤ 65536
-  chunks-near short field ef = omega (arith, trailer-after, partLaws .length-cut f (field + 12) (widthFrom f field))
 
   pub limit-text : 32768 < (h .n + h .m) * h .s → refusedText 15 ≡ acceptedText h f
   unfolding acceptedText

@@ -1,9 +1,10 @@
 -- `sfc_listing::file::list_accepted` meets its contract: past the limit, or the session in parts of the memory. Assumes nothing.
 use mathlib.Core.Path.{sym}
 use native.Mathlib.Omega.{arith}
+use lib.ListN.{length-take, length-drop}
 use lib.Seq.{length-take-le}
 use Rattle.sfc_listing.specs.Listing.{deskOf}
-use Rattle.sfc_listing.proofs.FileLaws.{printed-as, blocks-few, trailer-after, chunks-near, limit-text, session-text, desk-holds, ready}
+use Rattle.sfc_listing.proofs.FileLaws.{printed-as, blocks-few, trailer-after, limit-text, session-text, desk-holds, ready}
 use borrow.Author.Needs.{needs}
 use Rattle.sfc_listing.proofs.file.list_accepted.Statement.{statement}
 use Rattle.sfc_listing.proofs.file.list_accepted.Tie as tie
@@ -86,7 +87,7 @@ list-session-requires : tie.Need-list-session-requires
 list-session-requires c κs =
     let s = c .before .before .before .before .before .before .before .before .before .before .before .before .before .before .before .before .before .before .before .before .before .before .before in
     let a = s .args in
-    (ready (a .h) (a .file .now) (s .pre .0) (c .before .before .before .before .before .before .before .before .before .before .before .if1 .left) (deskOf (a .store .now) (a .marks .now) (a .scratch .now) (a .numbers .now) (a .content .now) (a .bounds .now)) (s .pre .2), chunks-near (a .h) (a .file .now) (s .pre .0) (s .pre .1) (c .before .before .before .before .before .before .before .before .read32 .result) (c .before .before .before .before .before .before .before .before .read32 .ensures), s .pre .3)
+    (ready (a .h) (a .file .now) (s .pre .0) (c .before .before .before .before .before .before .before .before .before .before .before .if1 .left) (deskOf (a .store .now) (a .marks .now) (a .scratch .now) (a .numbers .now) (a .content .now) (a .bounds .now)) (s .pre .2), simp (length-take, length-drop) (omega (arith, trailer-after (a .h) (a .file .now) (s .pre .0), s .pre .1, c .before .before .before .before .before .before .before .before .read32 .ensures)), s .pre .3)
 
 returns-2 : tie.Need-returns-2
 returns-2 c =
