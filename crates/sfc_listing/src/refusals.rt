@@ -69,16 +69,8 @@ fn tell_chunks(
     let mut length = length_at_front(h, bytes);
     while 0 < length {
         let end = at + length;
-        let step = tell_offer(
-            h,
-            counted,
-            store,
-            marks,
-            &bytes[at..end],
-            from + at,
-            out,
-            to,
-        );
+        let own = from + at;
+        let step = tell_offer(h, counted, store, marks, &bytes[at..end], own, out, to);
         counted = step.tallies;
         to = step.to;
         at = end;

@@ -34,6 +34,15 @@ add-end c =
     (l .at) (l .to) (l .length) (sessionOf (l .store) (l .marks) (l .counted)) (l .out) (l .inv .0) (s .pre .0) (s .pre .1) (c .loop-test .taken) in
     record { fits = omega (arith, i .0, s .pre .0) }
 
+add-own : tie.Need-add-own Inv-loop μ-loop
+add-own c =
+    let s = c .before .before .before .before .before .before .before in
+    let a = s .args in
+    let l = c .before .loop in
+    let i = chunk-inside (a .h) (sessionOf (a .store .now) (a .marks .now) (a .tallies)) (a .bytes .now) (a .from) (a .out .now) (a .start)
+    (l .at) (l .to) (l .length) (sessionOf (l .store) (l .marks) (l .counted)) (l .out) (l .inv .0) (s .pre .0) (s .pre .1) (c .loop-test .taken) in
+    record { fits = omega (arith, i .1) }
+
 sub-tell-offer : tie.Need-sub-tell-offer Inv-loop μ-loop
 sub-tell-offer c =
     let s = c .before .before .before .before .before .before .before .before .before in
@@ -60,15 +69,6 @@ part-tell-offer-end c =
     let i = chunk-inside (a .h) (sessionOf (a .store .now) (a .marks .now) (a .tallies)) (a .bytes .now) (a .from) (a .out .now) (a .start)
     (l .at) (l .to) (l .length) (sessionOf (l .store) (l .marks) (l .counted)) (l .out) (l .inv .0) (s .pre .0) (s .pre .1) (c .before .before .loop-test .taken) in
     omega (arith, i .0)
-
-add-tell-offer : tie.Need-add-tell-offer Inv-loop μ-loop
-add-tell-offer c =
-    let s = c .before .before .before .before .before .before .before .before .before .before in
-    let a = s .args in
-    let l = c .before .before .before .before .loop in
-    let i = chunk-inside (a .h) (sessionOf (a .store .now) (a .marks .now) (a .tallies)) (a .bytes .now) (a .from) (a .out .now) (a .start)
-    (l .at) (l .to) (l .length) (sessionOf (l .store) (l .marks) (l .counted)) (l .out) (l .inv .0) (s .pre .0) (s .pre .1) (c .before .before .before .loop-test .taken) in
-    record { fits = omega (arith, i .1) }
 
 tell-offer-requires : tie.Need-tell-offer-requires Inv-loop μ-loop
 tell-offer-requires c κs =
@@ -146,10 +146,10 @@ tell-chunks-spec =
     (λ c κs. search needs)
     loop-holds
     add-end
+    add-own
     sub-tell-offer
     part-tell-offer-start
     part-tell-offer-end
-    add-tell-offer
     tell-offer-requires
     sub-length-at-front
     part-length-at-front-start
