@@ -2,15 +2,14 @@
 -- place which goes with the number fits. Assumes nothing.
 use Prim.Native.Nat.{ℕ, _+_, _*_, _<_, _≤_}
 use mathlib.Core.Path.{_≡_, refl, sym, ap, _∙_}
-use mathlib.Core.Logic.{_≢_}
 use mathlib.Core.Bool.{Bool, true, false, cond}
-use mathlib.Core.List.{List, [], _∷_, _++_}
+use mathlib.Core.List.{List, _∷_, _++_}
 use native.Mathlib.Omega.{arith}
 use borrow.Author.Tests.{ltb-true, ltb-false, leb-true, leb-false}
 use lib.Dec.{eqb, ltb, leb, lit≤}
 use lib.ListN.{length}
 use Rattle.little.proofs.Laws.{testLaws}
-use Rattle.sfc.specs.answer.Numbers.{Check, checked, verdict, Passed, numberOf, reasonOf}
+use Rattle.sfc.specs.answer.Numbers.{verdict, numberOf, reasonOf}
 use Rattle.sfc.specs.answer.Places.{number, place}
 use Rattle.sfc.specs.answer.Said.{chunkSpot}
 use Rattle.sfc.specs.format.Chunk.{indexOf, payloadLength, chunkLength, sealChecks, headChecks, chunkChecks, aloneChecks}

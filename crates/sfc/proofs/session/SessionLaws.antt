@@ -15,7 +15,7 @@ use Rattle.sfc.specs.session.Lent.{marksWrong, lentWrong}
 use Rattle.sfc.specs.format.Chunk.{indexOf, payloadLength, payloadOf, chunkLength, chunkChecks}
 use Rattle.sfc.specs.answer.Places.{number, place}
 use Rattle.sfc.specs.session.Tallies.{tallyFull, countedRefusal, counted}
-use Rattle.sfc.specs.session.Session.{Session, mark, blockOf, sessionWrong, markChecks, welcomed, verdictOf, sessionOf, settled, afterVerdict, tallied, after}
+use Rattle.sfc.specs.session.Session.{Session, mark, blockOf, sessionWrong, markChecks, welcomed, verdictOf, settled, afterVerdict, after}
 use Rattle.sfc.specs.inner.Steps.{Stepped, stepped, Welcome, Judged, judgedOf, judged}
 use Rattle.sfc.specs.session.Right.{RightLent}
 use Rattle.sfc.specs.declared.format.header.Head.{Head}

@@ -1,38 +1,34 @@
 -- The theorems of the place where a chunk broke (specs/session/SpotTheorems.antt), from the table by number and from what a number
 -- tells of the checks. Assumes nothing.
-use Prim.Native.Nat.{ℕ, _+_, _*_, _^_, _<_, _≤_}
+use Prim.Native.Nat.{ℕ, _+_, _^_, _<_, _≤_}
 use mathlib.Core.Path.{_≡_, refl, sym, ap, _∙_, subst}
 use mathlib.Core.Logic.{_⊎_, inl, inr, _≢_, _↔_}
 use mathlib.Core.Bool.{Bool, true, false, cond, not, _&&_, _||_}
 use mathlib.Core.List.{List, [], _∷_, _++_}
 use native.Mathlib.Omega.{arith}
-use borrow.Author.Tests.{eqb-true, eq-eqb, ltb-false, not-true}
+use borrow.Author.Tests.{ltb-false, not-true}
 use lib.Dec.{eqb, ltb, lit≤}
 use lib.ListN.{length, getD}
-use Rattle.little.specs.Fields.{le, bytesOf}
+use Rattle.little.specs.Fields.{bytesOf}
 use Rattle.little.specs.Runs.{zeros}
-use Rattle.little.proofs.Laws.{testLaws, littleLaws}
-use Rattle.sfc.specs.answer.Numbers.{Check, verdict, Passed, NumbersAre, numberOf, reasonOf}
+use Rattle.little.proofs.Laws.{littleLaws}
+use Rattle.sfc.specs.answer.Numbers.{Check, verdict, Passed, numberOf, reasonOf}
 use Rattle.sfc.specs.answer.Places.{place}
 use Rattle.sfc.specs.format.Bytes.{standsAt}
-use Rattle.sfc.specs.format.Chunk.{chunkMagic, endMarker, indexOf, payloadLength, chunkLength, typeFor, lengthChecks, sealChecks, headChecks, chunkChecks, aloneChecks}
-use Rattle.sfc.specs.format.Spot.{spotAt, agreeing, firstOther, spotFor, checkChunk}
-use Rattle.sfc.specs.session.Session.{Session, markChecks, offerChecks, verdictOf, spotOf, offered}
+use Rattle.sfc.specs.format.Chunk.{chunkMagic, endMarker, indexOf, payloadLength, chunkLength, typeFor, chunkChecks, aloneChecks}
+use Rattle.sfc.specs.format.Spot.{spotAt, agreeing, firstOther, spotFor}
+use Rattle.sfc.specs.session.Session.{Session, markChecks, offerChecks, spotOf, offered}
 use Rattle.sfc.specs.session.SpotTheorems.{Gives, FirstWrong, PlaceTable, FirstWrongs}
 use Rattle.sfc.specs.declared.format.header.Head.{Head}
 use Rattle.sfc.specs.declared.answer.reason.Reason.{Reason}
-use Rattle.sfc.specs.declared.answer.reason.Checked.{Checked}
-use Rattle.sfc.specs.declared.answer.reason.Checked.the-variants.{Good, Refused as Wrong}
 use Rattle.sfc.specs.declared.answer.places.BlockNumber.{BlockNumber}
 use Rattle.sfc.specs.declared.answer.places.BytePlace.{BytePlace}
 use Rattle.sfc.specs.declared.answer.places.Spot.{Spot}
-use Rattle.sfc.specs.declared.answer.places.Spot.the-variants.{At, Nowhere}
-use Rattle.sfc.specs.declared.format.chunk.ChunkChecked.the-variants.{Refused as NoChunk}
+use Rattle.sfc.specs.declared.answer.places.Spot.the-variants.{Nowhere}
 use Rattle.sfc.specs.declared.session.offer.Verdict.the-variants.{Fresh, Repeat, Refused}
 use Rattle.sfc.proofs.answer.CheckLaws.{EachHeld, number-held, blamed}
 use Rattle.sfc.proofs.format.SpotLaws.{agreeing-short, agreeing-inside, first-wrong, number-apart}
 use Rattle.sfc.proofs.session.MarkLaws.{right-shape}
-use Rattle.sfc.proofs.session.SessionLaws.{number-in}
 use Rattle.sfc.proofs.session.BreakLaws.{check-refused, offer-refused, offer-spot, Own, own-check, own-offer}
 
 at-one : (p q : ℕ) → spotAt p ≡ spotAt q → p ≡ q
