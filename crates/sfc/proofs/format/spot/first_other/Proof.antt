@@ -1,7 +1,5 @@
 -- `sfc::format::spot::first_other` meets its contract: no more bytes agree than are wanted. Assumes nothing.
-use mathlib.Core.Path.{_∙_}
 use native.Mathlib.Omega.{arith}
-use Rattle.sfc.specs.format.Spot.{spotAt}
 use Rattle.sfc.proofs.format.SpotLaws.{agreeing-short}
 use borrow.Author.Needs.{needs}
 use Rattle.sfc.proofs.format.spot.first_other.Statement.{statement}

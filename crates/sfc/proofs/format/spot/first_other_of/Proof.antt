@@ -1,11 +1,5 @@
 -- `sfc::format::spot::first_other_of` meets its contract: four bytes that are stored over four are those of the number. Assumes nothing.
-use mathlib.Core.Path.{_≡_, refl, ap, _∙_}
-use native.Mathlib.Omega.{arith}
-use mathlib.Core.List.{List}
-use Prim.Native.Nat.{ℕ}
-use Rattle.little.specs.Fields.{bytesOf, putLe}
-use Rattle.little.specs.Runs.{zeros}
-use Rattle.sfc.specs.format.Spot.{firstOther}
+use mathlib.Core.Path.{_∙_}
 use Rattle.sfc.proofs.format.SpotLaws.{four-stored}
 use borrow.Author.Needs.{needs}
 use Rattle.sfc.proofs.format.spot.first_other_of.Statement.{statement}
