@@ -1,14 +1,15 @@
 -- What the floors above may rely on beside the calls' promises and the theorems: the lengths of blocks, which data blocks are
--- missing, and what `decode` joins to. Statements, proved in proofs/Laws.antt; no other law of this crate is seen above.
+-- missing, what `decode` joins to, and scratch that is rebuilt a few columns at a time. Statements, proved in proofs/Laws.antt;
+-- no other law of this crate is seen above.
 use mathlib.Core.Path.{_≡_}
 use mathlib.Core.Bool.{false}
 use mathlib.Core.List.{List, _++_}
-use Prim.Native.Nat.{ℕ, suc, _+_, _*_, _%_, _≤_, _<_}
+use Prim.Native.Nat.{ℕ, suc, _+_, _*_, _/_, _%_, _≤_, _<_}
 use lib.ListN.{length, getD, take, drop}
 use Rattle.little.specs.Parts.{block}
-use Rattle.cauchy.specs.Code.{wordBytes, joined, recoveryBlock, codeBlock}
-use Rattle.cauchy.specs.Decode.{held, count, missing, present, holding, decode, decoded}
-use Rattle.cauchy.specs.Calls.{wrongShape}
+use Rattle.cauchy.specs.Code.{wordBytes, joined, recoveryBlock, codeBlock, Held}
+use Rattle.cauchy.specs.Decode.{held, count, missing, present, holding, missingData, decode, decoded}
+use Rattle.cauchy.specs.Calls.{wrongShape, inRange, rebuiltScratch}
 
 -- what a right shape tells
 pub record Right (n m s : ℕ) : Type 0 where
@@ -54,3 +55,30 @@ pub record MissingLaws : Type 0 where
   -- blocks that are each what `decode` gives are all of them joined
   pub as-decoded : (n m s : ℕ) (marks store blocks : List ℕ) → length blocks ≡ n * s
       → ((j : ℕ) → j < n → block s blocks j ≡ decode n m s marks store j) → blocks ≡ decoded n m s marks store
+
+pub record ScratchLaws : Type 0 where
+  -- what is rebuilt is as long as what was lent
+  pub length-rebuilt : (n m s : ℕ) (marks store : List ℕ) (first count : ℕ) (scratch : List ℕ)
+      → length (rebuiltScratch n m s marks store first count scratch) ≡ length scratch
+  -- no column asked for, or no data block missing: scratch stays
+  pub none-rebuilt : (n m s : ℕ) (marks store : List ℕ) (first : ℕ) (scratch : List ℕ)
+      → rebuiltScratch n m s marks store first 0 scratch ≡ scratch
+  pub nothing-missing : (n m s : ℕ) (marks store : List ℕ) (first count : ℕ) (scratch : List ℕ)
+      → length (missingData n marks) ≡ 0 → rebuiltScratch n m s marks store first count scratch ≡ scratch
+  -- columns in two goes are those columns in one
+  pub rebuilt-on : (n m s : ℕ) (marks store : List ℕ) (first a b : ℕ) (scratch : List ℕ)
+      → rebuiltScratch n m s marks store (first + a) b (rebuiltScratch n m s marks store first a scratch)
+      ≡ rebuiltScratch n m s marks store first (a + b) scratch
+  -- a byte outside the columns asked for stays
+  pub else-kept : (n m s : ℕ) (marks store : List ℕ) (first count : ℕ) (scratch : List ℕ) (q : ℕ)
+      → inRange s first count (length (missingData n marks)) q ≡ false
+      → getD (rebuiltScratch n m s marks store first count scratch) q 0 ≡ getD scratch q 0
+  -- all columns: each block of scratch is `decode` of its missing data block, whatever lay there
+  pub all-rebuilt : (n m s : ℕ) (marks store scratch : List ℕ) → 2 ≤ s → s % 2 ≡ 0 → length marks ≡ n + m → length scratch ≡ m * s
+      → n ≤ holding marks → (l : ℕ) → l < length (missingData n marks)
+      → block s (rebuiltScratch n m s marks store 0 (s / 2) scratch) l ≡ decode n m s marks store (getD (missingData n marks) l 0)
+  -- what lies in the store at an index that is not held has no part in it
+  pub blind-rebuilt : (n m s : ℕ) (marks store other : List ℕ) (first count : ℕ) (scratch : List ℕ)
+      → s % 2 ≡ 0 → length marks ≡ n + m → n ≤ holding marks → first + count ≤ s / 2
+      → ((i : ℕ) → i < n + m → Held marks i → block s store i ≡ block s other i)
+      → rebuiltScratch n m s marks store first count scratch ≡ rebuiltScratch n m s marks other first count scratch

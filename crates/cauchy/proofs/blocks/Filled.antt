@@ -1,4 +1,4 @@
--- Scratch with ranges of words filled in: a range read, a range put. Assumes nothing.
+-- Scratch with ranges of words filled in: a range read, a range put, none, and one after another. Assumes nothing.
 use mathlib.Core.Path.{_≡_, refl, sym, _∙_, ap, ap₂}
 use mathlib.Core.Bool.{Bool, true, false, cond, _&&_}
 use mathlib.Core.List.{List, _++_}
@@ -7,7 +7,7 @@ use native.Mathlib.Nat.{div-add-mod'}
 use native.Mathlib.Omega.{arith}
 use native.Mathlib.Decide.{decLt, ℕ-discrete}
 use lib.Arith.{digits-div, digits-mod}
-use lib.ListN.{length, getD, take, drop}
+use lib.ListN.{length, getD, take, drop, List·getD-eq-default}
 use lib.Seq.{ext-getD}
 use lib.Dec.{ltb, leb}
 use borrow.Author.Tests.{lt-ltb, le-ltb, le-leb, lt-leb}
@@ -29,7 +29,7 @@ byte-from f c (suc n) (suc (suc r)) h =
     let b : suc c + r / 2 ≡ c + suc (suc r) / 2 = omega arith in
     byte-from f (suc c) n r (omega arith) ∙ ap₂ (λ (x y : ℕ). byteOf x (f y)) a b
 
-and-off : (a b : Bool) → b ≡ false → (a && b) ≡ false
+pub and-off : (a b : Bool) → b ≡ false → (a && b) ≡ false
 and-off true b e = e
 and-off false b e = refl
 
@@ -50,7 +50,17 @@ else-same s first count e e′ g g′ base q he hg = go (decLt (q / s) e′)
     go (yes h) = rw (he, hg h)
     go (no h) = rw (he, le-ltb (q / s) e′ (omega arith))
 
-module _ (s first count : ℕ) (room : first + count ≤ s / 2) where
+-- a byte of a block that is in none of the words asked for
+pub out-words : (first count r : ℕ) → (2 * first ≤ r → r < 2 * (first + count) → ⊥)
+    → (leb (2 * first) r && ltb r (2 * (first + count))) ≡ false
+out-words first count r o = go (decLt r (2 * first)) (decLt r (2 * (first + count)))
+  where
+    go : Dec (r < 2 * first) → Dec (r < 2 * (first + count)) → (leb (2 * first) r && ltb r (2 * (first + count))) ≡ false
+    go (yes a) d = rw (lt-leb (2 * first) r a)
+    go (no a) (yes d) = absurd (o (omega arith) d)
+    go (no a) (no d) = rw (le-leb (2 * first) r (omega arith), le-ltb r (2 * (first + count)) (omega arith))
+
+module _ (s first count : ℕ) where
   abbrev pub byteAt : ℕ → (ℕ → ℕ → ℕ) → List ℕ → ℕ → ℕ
   byteAt e g base q = cond (inRange s first count e q) (byteOf (q % s % 2) (g (q / s) (q % s / 2))) (getD base q 0)
 
@@ -62,10 +72,27 @@ module _ (s first count : ℕ) (room : first + count ≤ s / 2) where
   unfolding filled
   getD-filled e g base q h = getD-build (byteAt e g base) 0 (length base) q h ∙ ap (byteAt e g base) (omega arith)
 
+  -- a byte outside the range is base's
+  pub else-filled : (e : ℕ) (g : ℕ → ℕ → ℕ) (base : List ℕ) (q : ℕ) → inRange s first count e q ≡ false
+      → getD (filled s first count e g base) q 0 ≡ getD base q 0
+  else-filled e g base q o = go (decLt q (length base))
+    where
+      go : Dec (q < length base) → getD (filled s first count e g base) q 0 ≡ getD base q 0
+      go (yes h) = getD-filled e g base q h ∙ ap (λ (t : Bool). cond t (byteOf (q % s % 2) (g (q / s) (q % s / 2))) (getD base q 0)) o
+      go (no h) =
+          List·getD-eq-default (filled s first count e g base) 0 {n = q} (omega (arith, length-filled e g base))
+          ∙ sym (List·getD-eq-default base 0 {n = q} (omega arith))
+
+  -- so where no byte is in the range, nothing changes
+  pub same-filled : (e : ℕ) (g : ℕ → ℕ → ℕ) (base : List ℕ) → ((q : ℕ) → inRange s first count e q ≡ false)
+      → filled s first count e g base ≡ base
+  same-filled e g base o = ext-getD 0 (filled s first count e g base) base (length-filled e g base) (λ q m. else-filled e g base q (o q))
+
   -- inside: block t, byte 2 first + r
-  byte-in : (e : ℕ) (g : ℕ → ℕ → ℕ) (base : List ℕ) (t r : ℕ) → t < e → r < 2 * count → byteAt e g base (t * s + 2 * first + r) ≡ byteOf (r % 2) (g t (first + r / 2))
+  byte-in : first + count ≤ s / 2 → (e : ℕ) (g : ℕ → ℕ → ℕ) (base : List ℕ) (t r : ℕ) → t < e → r < 2 * count
+      → byteAt e g base (t * s + 2 * first + r) ≡ byteOf (r % 2) (g t (first + r / 2))
   unfolding inRange
-  byte-in e g base t r ht hr =
+  byte-in room e g base t r ht hr =
       let k : 2 * first + r < s = omega arith in
       let a : t * s + 2 * first + r ≡ t * s + (2 * first + r) = omega arith in
       let d : (t * s + (2 * first + r)) / s ≡ t = digits-div t k in
@@ -75,9 +102,9 @@ module _ (s first count : ℕ) (room : first + count ≤ s / 2) where
       rw (a, d, m, lt-ltb t e ht, le-leb (2 * first) (2 * first + r) (omega arith), lt-ltb (2 * first + r) (2 * (first + count)) (omega arith), z, w)
 
   -- a range that is read
-  pub read-filled : (e : ℕ) (g : ℕ → ℕ → ℕ) (base : List ℕ) (t width : ℕ) → t < e → e * s ≤ length base → width ≡ 2 * count
+  pub read-filled : first + count ≤ s / 2 → (e : ℕ) (g : ℕ → ℕ → ℕ) (base : List ℕ) (t width : ℕ) → t < e → e * s ≤ length base → width ≡ 2 * count
       → take width (drop (t * s + 2 * first) (filled s first count e g base)) ≡ wordBytes (λ v. g t (first + v)) 0 count
-  read-filled e g base t width ht l ew =
+  read-filled room e g base t width ht l ew =
       let inside : t * s + s ≤ e * s = blockLaws .block-inside s e t ht in
       let lf : length (filled s first count e g base) ≡ length base = length-filled e g base in
       let lp : length (take width (drop (t * s + 2 * first) (filled s first count e g base))) ≡ width = partLaws .length-part (filled s first count e g base) (t * s + 2 * first) width (omega arith) in
@@ -85,7 +112,7 @@ module _ (s first count : ℕ) (room : first + count ≤ s / 2) where
       (λ r m. let m′ : r < 2 * count = omega arith in
       partLaws .getD-part (filled s first count e g base) (t * s + 2 * first) width r (omega arith)
       ∙ getD-filled e g base (t * s + 2 * first + r) (omega arith)
-      ∙ byte-in e g base t r ht m′
+      ∙ byte-in room e g base t r ht m′
       ∙ sym (byte-from (λ v. g t (first + v)) 0 count r m′ ∙ ap (λ (x : ℕ). byteOf (r % 2) (g t (first + x))) (omega arith)))
 
   -- a byte that is not in the range of block t
@@ -97,12 +124,7 @@ module _ (s first count : ℕ) (room : first + count ≤ s / 2) where
       qs = div-add-mod' q s
 
       off : (t * s + q % s ≡ q) → leb (2 * first) (q % s) && ltb (q % s) (2 * (first + count)) ≡ false
-      off e = off-go (decLt (q % s) (2 * first)) (decLt (q % s) (2 * (first + count)))
-        where
-          off-go : Dec (q % s < 2 * first) → Dec (q % s < 2 * (first + count)) → leb (2 * first) (q % s) && ltb (q % s) (2 * (first + count)) ≡ false
-          off-go (yes a) d = rw (lt-leb (2 * first) (q % s) a)
-          off-go (no a) (yes d) = absurd (ho (omega arith) (omega arith))
-          off-go (no a) (no d) = rw (le-leb (2 * first) (q % s) (omega arith), le-ltb (q % s) (2 * (first + count)) (omega arith))
+      off e = out-words first count (q % s) (λ a d. ho (omega arith) (omega arith))
 
       go : Dec (q / s ≡ t) → byteAt e g base q ≡ byteAt e′ g′ base q
       go (yes y) =
@@ -111,10 +133,10 @@ module _ (s first count : ℕ) (room : first + count ≤ s / 2) where
       go (no n) = else-same s first count e e′ g g′ base q (he (q / s) n) (λ h. hg (q / s) (q % s / 2) n h)
 
   -- a range that is put
-  pub put-filled : (e e′ : ℕ) (g g′ : ℕ → ℕ → ℕ) (base F ys : List ℕ) (t width : ℕ) → 0 < s → t < e′ → e′ * s ≤ length base → width ≡ 2 * count
+  pub put-filled : first + count ≤ s / 2 → (e e′ : ℕ) (g g′ : ℕ → ℕ → ℕ) (base F ys : List ℕ) (t width : ℕ) → 0 < s → t < e′ → e′ * s ≤ length base → width ≡ 2 * count
       → ((l : ℕ) → (l ≡ t → ⊥) → ltb l e ≡ ltb l e′) → ((l w : ℕ) → (l ≡ t → ⊥) → l < e′ → g l w ≡ g′ l w) → F ≡ filled s first count e g base → ys ≡ wordBytes (λ v. g′ t (first + v)) 0 count
       → take (t * s + 2 * first) F ++ (ys ++ drop width (drop (t * s + 2 * first) F)) ≡ filled s first count e′ g′ base
-  put-filled e e′ g g′ base F ys t width hs ht l ew he hg eF ey =
+  put-filled room e e′ g g′ base F ys t width hs ht l ew he hg eF ey =
       let inside : t * s + s ≤ e′ * s = blockLaws .block-inside s e′ t ht in
       let lF : length F ≡ length base = ap length eF ∙ length-filled e g base in
       let ly : length ys ≡ width = ap length ey ∙ length-wordBytes (λ v. g′ t (first + v)) 0 count ∙ sym ew in
@@ -138,7 +160,7 @@ module _ (s first count : ℕ) (room : first + count ≤ s / 2) where
           ∙ ap (λ (x : List ℕ). getD x (q - (t * s + 2 * first)) 0) ey
           ∙ byte-from (λ v. g′ t (first + v)) 0 count (q - (t * s + 2 * first)) k
           ∙ ap (λ (x : ℕ). byteOf ((q - (t * s + 2 * first)) % 2) (g′ t (first + x))) (omega arith)
-          ∙ sym (ap (byteAt e′ g′ base) r ∙ byte-in e′ g′ base t (q - (t * s + 2 * first)) ht k)
+          ∙ sym (ap (byteAt e′ g′ base) r ∙ byte-in room e′ g′ base t (q - (t * s + 2 * first)) ht k)
       go q m h ly (no a) (no d) =
           putLaws .put-after F (t * s + 2 * first) ys h q (omega arith) ∙ at-F q m ∙ byte-out e e′ g g′ base t q hs he hg (λ x y. omega arith)
 
@@ -157,9 +179,59 @@ range-same s first count e g h base q f = go (decLt (q / s) e) (decLt (q % s) (2
     go (yes a) (no b) (no d) = rw (lt-ltb (q / s) e a, le-leb (2 * first) (q % s) (omega arith), le-ltb (q % s) (2 * (first + count)) (omega arith))
     go (no a) b d = rw (le-ltb (q / s) e (omega arith))
 
-pub filled-ext : (s first count e : ℕ) (g h : ℕ → ℕ → ℕ) (base : List ℕ) → first + count ≤ s / 2 → ((l w : ℕ) → l < e → first ≤ w → w < first + count → g l w ≡ h l w)
+pub filled-ext : (s first count e : ℕ) (g h : ℕ → ℕ → ℕ) (base : List ℕ) → ((l w : ℕ) → l < e → first ≤ w → w < first + count → g l w ≡ h l w)
     → filled s first count e g base ≡ filled s first count e h base
-filled-ext s first count e g h base k f =
-    ext-getD 0 (filled s first count e g base) (filled s first count e h base) (length-filled s first count k e g base ∙ sym (length-filled s first count k e h base))
-    (λ q m. let m′ : q < length base = omega (arith, length-filled s first count k e g base) in
-    getD-filled s first count k e g base q m′ ∙ range-same s first count e g h base q (λ a b d. f (q / s) (q % s / 2) a (omega arith) (omega arith)) ∙ sym (getD-filled s first count k e h base q m′))
+filled-ext s first count e g h base f =
+    ext-getD 0 (filled s first count e g base) (filled s first count e h base) (length-filled s first count e g base ∙ sym (length-filled s first count e h base))
+    (λ q m. let m′ : q < length base = omega (arith, length-filled s first count e g base) in
+    getD-filled s first count e g base q m′ ∙ range-same s first count e g h base q (λ a b d. f (q / s) (q % s / 2) a (omega arith) (omega arith)) ∙ sym (getD-filled s first count e h base q m′))
+
+-- ---- a range after another is both in one
+
+range-on : (t : Bool) (first a b r x y : ℕ)
+    → cond (t && (leb (2 * (first + a)) r && ltb r (2 * (first + a + b)))) x
+    (cond (t && (leb (2 * first) r && ltb r (2 * (first + a)))) x y)
+    ≡ cond (t && (leb (2 * first) r && ltb r (2 * (first + (a + b))))) x y
+range-on false first a b r x y = refl
+range-on true first a b r x y = go (decLt r (2 * first)) (decLt r (2 * (first + a))) (decLt r (2 * (first + (a + b))))
+  where
+    go : Dec (r < 2 * first) → Dec (r < 2 * (first + a)) → Dec (r < 2 * (first + (a + b)))
+        → cond (leb (2 * (first + a)) r && ltb r (2 * (first + a + b))) x (cond (leb (2 * first) r && ltb r (2 * (first + a))) x y)
+        ≡ cond (leb (2 * first) r && ltb r (2 * (first + (a + b)))) x y
+    go (yes h) i j = rw (lt-leb (2 * (first + a)) r (omega arith), lt-leb (2 * first) r h)
+    go (no h) (yes i) j =
+        rw (
+          lt-leb (2 * (first + a)) r i,
+          le-leb (2 * first) r (omega arith),
+          lt-ltb r (2 * (first + a)) i,
+          lt-ltb r (2 * (first + (a + b))) (omega arith),
+        )
+    go (no h) (no i) (yes j) =
+        rw (
+          le-leb (2 * (first + a)) r (omega arith),
+          lt-ltb r (2 * (first + a + b)) (omega arith),
+          le-leb (2 * first) r (omega arith),
+          lt-ltb r (2 * (first + (a + b))) j,
+        )
+    go (no h) (no i) (no j) =
+        rw (
+          le-ltb r (2 * (first + a + b)) (omega arith),
+          le-ltb r (2 * (first + a)) (omega arith),
+          le-ltb r (2 * (first + (a + b))) (omega arith),
+          le-leb (2 * (first + a)) r (omega arith),
+          le-leb (2 * first) r (omega arith),
+        )
+
+pub filled-on : (s first a b e : ℕ) (g : ℕ → ℕ → ℕ) (base : List ℕ)
+    → filled s (first + a) b e g (filled s first a e g base) ≡ filled s first (a + b) e g base
+unfolding inRange
+filled-on s first a b e g base =
+    ext-getD 0 (filled s (first + a) b e g (filled s first a e g base)) (filled s first (a + b) e g base)
+    (length-filled s (first + a) b e g (filled s first a e g base) ∙ length-filled s first a e g base ∙ sym (length-filled s first (a + b) e g base))
+    (λ q m.
+    let m₀ : q < length (filled s first a e g base) = omega (arith, length-filled s (first + a) b e g (filled s first a e g base)) in
+    let m′ : q < length base = omega (arith, length-filled s first a e g base) in
+    getD-filled s (first + a) b e g (filled s first a e g base) q m₀
+    ∙ ap (cond (inRange s (first + a) b e q) (byteOf (q % s % 2) (g (q / s) (q % s / 2)))) (getD-filled s first a e g base q m′)
+    ∙ range-on (ltb (q / s) e) first a b (q % s) (byteOf (q % s % 2) (g (q / s) (q % s / 2))) (getD base q 0)
+    ∙ sym (getD-filled s first (a + b) e g base q m′))

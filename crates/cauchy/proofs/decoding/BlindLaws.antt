@@ -2,7 +2,7 @@
 use mathlib.Core.Path.{_≡_, refl, sym, _∙_, ap, ap₂}
 use mathlib.Core.Bool.{cond}
 use mathlib.Core.List.{List, [], _∷_}
-use Prim.Native.Nat.{ℕ, suc, _+_, _*_, _/_, _%_, _<_, suc-le-suc}
+use Prim.Native.Nat.{ℕ, suc, _+_, _*_, _/_, _%_, _≤_, _<_, suc-le-suc}
 use native.Mathlib.Decide.{ℕ-discrete}
 use native.Mathlib.Omega.{arith}
 use lib.ListN.{length, getD, take}
@@ -13,7 +13,7 @@ use Rattle.little.specs.Parts.{block}
 use Rattle.gf16.specs.Field.{mul, inv}
 use Rattle.cauchy.specs.Code.{wordAt, wordOf, wordBytes, share, Held}
 use Rattle.cauchy.specs.inner.System.{field, solve}
-use Rattle.cauchy.specs.Decode.{held, missing, rowsUsed, heldSum, side, sides, foundWords, rank, decode}
+use Rattle.cauchy.specs.Decode.{held, holding, missing, rowsUsed, heldSum, side, sides, foundWords, rank, decode}
 use Rattle.cauchy.specs.Theorems.{Blind}
 use Rattle.cauchy.proofs.blocks.BlockLaws.{wordBytes-ext, word-block}
 use Rattle.cauchy.proofs.blocks.CodeLaws.{sum-ext}
@@ -47,25 +47,24 @@ module _ (n m s : ℕ) (marks store other : List ℕ) (even : s % 2 ≡ 0) (agre
       let h₀ : (k < m) × Held marks (n + k) = h 0 (omega arith) in
       ap₂ _∷_ (ap₂ bitXor (same-sum k w hw) (same-word (n + k) w (omega (arith, h₀ .0)) (h₀ .1) hw)) (same-sides w hw ks (λ i q. h (suc i) (suc-le-suc q)))
 
-found-same : (n m s : ℕ) (marks store other : List ℕ) (w : ℕ) → sides n m s marks store w (rowsUsed n marks) ≡ sides n m s marks other w (rowsUsed n marks)
-    → foundWords n m s marks store w ≡ foundWords n m s marks other w
+-- the words found are the same
+pub same-words : (n m s : ℕ) (marks store other : List ℕ) → s % 2 ≡ 0 → length marks ≡ n + m → n ≤ holding marks
+    → ((i : ℕ) → i < n + m → Held marks i → block s store i ≡ block s other i)
+    → (w : ℕ) → w < s / 2 → foundWords n m s marks store w ≡ foundWords n m s marks other w
 unfolding foundWords
-found-same n m s marks store other w e = ap (solve field (rowsUsed n marks) (missing m (held (take n marks)))) e
+same-words n m s marks store other even lm h agree w hw =
+    let r : UsedRows n m marks = rows-used n m marks lm h in
+    ap (solve field (rowsUsed n marks) (missing m (held (take n marks))))
+    (same-sides n m s marks store other even agree w hw (rowsUsed n marks) (λ i q. (r .below i q, r .is i q)))
 
 pub blind : Blind
 unfolding decode
 blind n m s marks store other even lm h agree j hj = go (ℕ-discrete (getD marks j 0) 1)
   where
-    r : UsedRows n m marks
-    r = rows-used n m marks lm h
-
-    same-words : (w : ℕ) → w < s / 2 → foundWords n m s marks store w ≡ foundWords n m s marks other w
-    same-words w hw = found-same n m s marks store other w (same-sides n m s marks store other even agree w hw (rowsUsed n marks) (λ i q. (r .below i q, r .is i q)))
-
     go : Dec (getD marks j 0 ≡ 1) → cond (eqb (getD marks j 0) 1) (block s store j) (wordBytes (λ w. getD (foundWords n m s marks store w) (rank j marks) 0) 0 (s / 2))
         ≡ cond (eqb (getD marks j 0) 1) (block s other j) (wordBytes (λ w. getD (foundWords n m s marks other w) (rank j marks) 0) 0 (s / 2))
     go (yes o) = rw (eq-eqb (getD marks j 0) 1 o) (agree j (omega arith) o)
     go (no o) =
         rw (ne-eqb (getD marks j 0) 1 o)
         (wordBytes-ext (λ w. getD (foundWords n m s marks store w) (rank j marks) 0) (λ w. getD (foundWords n m s marks other w) (rank j marks) 0) (s / 2)
-        (λ w hw. ap (λ (x : List ℕ). getD x (rank j marks) 0) (same-words w hw)))
+        (λ w hw. ap (λ (x : List ℕ). getD x (rank j marks) 0) (same-words n m s marks store other even lm h agree w hw)))

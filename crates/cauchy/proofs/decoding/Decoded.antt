@@ -12,7 +12,7 @@ use lib.Dec.{ltb, leb}
 use borrow.Author.Tests.{ne-eqb, le-ltb, ltb-false}
 use Rattle.cauchy.proofs.blocks.BlockLaws.{joined-ext, wordBytes-ext, word-back}
 use Rattle.cauchy.proofs.decoding.Known.{length-held, held-take, held-one}
-use Rattle.cauchy.proofs.blocks.Filled.{read-filled, length-filled, getD-filled}
+use Rattle.cauchy.proofs.blocks.Filled.{read-filled, length-filled, else-filled}
 use Rattle.cauchy.proofs.ranges.RangeLaws.{word-part}
 use Rattle.cauchy.specs.Laws.{Enough}
 use Rattle.cauchy.proofs.columns.EndLaws.{enough, fine}
@@ -20,17 +20,16 @@ use Rattle.little.proofs.Laws.{testLaws}
 use Rattle.cauchy.specs.declared.Answer.{Answer}
 use Rattle.cauchy.specs.Decode.{missing, missingData, held, holding, foundWords, rank, decode}
 use Rattle.cauchy.specs.Code.{joined, wordBytes, wordAt}
-use Rattle.cauchy.specs.Calls.{wrongShape, wrongMemory, byteOf, inRange, filled, Rebuilt, rebuiltScratch, rebuildSpec, decodedScratch, rebuildAllSpec}
+use Rattle.cauchy.specs.Calls.{wrongShape, wrongMemory, inRange, filled, Rebuilt, rebuiltScratch, rebuildSpec, decodedScratch, rebuildAllSpec}
 use Rattle.cauchy.specs.Theorems.{Decodes, DecodesWords}
 use Rattle.little.specs.Parts.{block}
 
 -- a byte after the first e blocks
-byte-after : (s e : ℕ) (g : ℕ → ℕ → ℕ) (base : List ℕ) (q : ℕ) → 0 < s → e * s ≤ q
-    → cond (inRange s 0 (s / 2) e q) (byteOf (q % s % 2) (g (q / s) (q % s / 2))) (getD base q 0) ≡ getD base q 0
+byte-after : (s first count e q : ℕ) → 0 < s → e * s ≤ q → inRange s first count e q ≡ false
 unfolding inRange
-byte-after s e g base q hs h = go (decLt (q / s) e)
+byte-after s first count e q hs h = go (decLt (q / s) e)
   where
-    go : Dec (q / s < e) → cond (ltb (q / s) e && (leb (2 * 0) (q % s) && ltb (q % s) (2 * (0 + s / 2)))) (byteOf (q % s % 2) (g (q / s) (q % s / 2))) (getD base q 0) ≡ getD base q 0
+    go : Dec (q / s < e) → (ltb (q / s) e && (leb (2 * first) (q % s) && ltb (q % s) (2 * (first + count)))) ≡ false
     go (yes y) = absurd (let k : q < e * s = div-lt-iff-lt-mul hs .0 y in omega arith)
     go (no o) = rw (le-ltb (q / s) e (omega arith))
 
@@ -78,10 +77,11 @@ fits-in n m s marks lm h =
     let g : Enough n m marks = enough n m marks lm h in
     mul-le-mul-right {m = length (missingData n marks)} {n = m} s (omega (arith, g .few, g .same))
 
-block-made : (n m s : ℕ) (marks store scratch : List ℕ) → 2 ≤ s → s % 2 ≡ 0 → length marks ≡ n + m → length scratch ≡ m * s → n ≤ holding marks
+-- each block is made whole, whatever lay there
+pub all-rebuilt : (n m s : ℕ) (marks store scratch : List ℕ) → 2 ≤ s → s % 2 ≡ 0 → length marks ≡ n + m → length scratch ≡ m * s → n ≤ holding marks
     → (l : ℕ) → l < length (missingData n marks) → block s (rebuiltScratch n m s marks store 0 (s / 2) scratch) l ≡ decode n m s marks store (getD (missingData n marks) l 0)
 unfolding rebuiltScratch
-block-made n m s marks store scratch hs ev lm lsc h l hl =
+all-rebuilt n m s marks store scratch hs ev lm lsc h l hl =
     let w : s ≡ 2 * (s / 2) = omega arith in
     let a : l * s + 2 * 0 ≡ l * s = omega arith in
     (rw a at (read-filled s 0 (s / 2) (omega arith) (length (missingData n marks)) (λ l w. getD (foundWords n m s marks store w) l 0) scratch l s hl (omega (arith, fits-in n m s marks lm h)) w))
@@ -103,13 +103,11 @@ in-blocks s store c (suc n) =
 -- after the blocks that are filled nothing changes
 rest-same : (s e : ℕ) (g : ℕ → ℕ → ℕ) (base : List ℕ) → 0 < s → drop (e * s) (filled s 0 (s / 2) e g base) ≡ drop (e * s) base
 rest-same s e g base hs =
-    let room : 0 + s / 2 ≤ s / 2 = omega arith in
-    let lf : length (filled s 0 (s / 2) e g base) ≡ length base = length-filled s 0 (s / 2) room e g base in
+    let lf : length (filled s 0 (s / 2) e g base) ≡ length base = length-filled s 0 (s / 2) e g base in
     ext-getD 0 (drop (e * s) (filled s 0 (s / 2) e g base)) (drop (e * s) base) (length-drop (e * s) (filled s 0 (s / 2) e g base) ∙ ap (λ (x : ℕ). x - e * s) lf ∙ sym (length-drop (e * s) base))
     (λ i m.
     getD-drop (e * s) (filled s 0 (s / 2) e g base) i 0
-    ∙ getD-filled s 0 (s / 2) room e g base (e * s + i) (omega (arith, length-drop (e * s) (filled s 0 (s / 2) e g base)))
-    ∙ byte-after s e g base (e * s + i) hs (omega arith) ∙ sym (getD-drop (e * s) base i 0))
+    ∙ else-filled s 0 (s / 2) e g base (e * s + i) (byte-after s 0 (s / 2) e (e * s + i) hs (omega arith)) ∙ sym (getD-drop (e * s) base i 0))
 
 pub all-columns : (n m s : ℕ) (marks store scratch : List ℕ) → 2 ≤ s → s % 2 ≡ 0 → length marks ≡ n + m → length scratch ≡ m * s → n ≤ holding marks
     → rebuiltScratch n m s marks store 0 (s / 2) scratch ≡ decodedScratch n m s marks store scratch
@@ -121,12 +119,12 @@ all-columns n m s marks store scratch hs ev lm lsc h =
     (rw (z, k) at (in-blocks s (rebuiltScratch n m s marks store 0 (s / 2) scratch) 0 (length (missingData n marks))))
     ∙ ap₂ (λ (x y : List ℕ). x ++ y)
     (joined-ext (λ l. block s (rebuiltScratch n m s marks store 0 (s / 2) scratch) l) (λ l. decode n m s marks store (getD (missingData n marks) l 0)) (length (missingData n marks))
-    (λ l hl. block-made n m s marks store scratch hs ev lm lsc h l hl))
+    (λ l hl. all-rebuilt n m s marks store scratch hs ev lm lsc h l hl))
     (rest-same s (length (missingData n marks)) (λ l w. getD (foundWords n m s marks store w) l 0) scratch (omega arith))
 
 pub decodes : Decodes
 decodes n m s marks store scratch hs ev lm lsc h l hl =
-    ap (λ (x : List ℕ). block s x l) (sym (all-columns n m s marks store scratch hs ev lm lsc h)) ∙ block-made n m s marks store scratch hs ev lm lsc h l hl
+    ap (λ (x : List ℕ). block s x l) (sym (all-columns n m s marks store scratch hs ev lm lsc h)) ∙ all-rebuilt n m s marks store scratch hs ev lm lsc h l hl
 
 -- so the call for all columns is the call for every column, by name
 either : (A : Type 0) (t u : Bool) (a b c d : A) → (t ≡ false → u ≡ false → c ≡ d) → cond t a (cond u b c) ≡ cond t a (cond u b d)

@@ -1,31 +1,24 @@
 -- Ranges of words: none filled, one more filled, and where they lie. Assumes nothing.
 use mathlib.Core.Path.{_≡_, sym, _∙_, ap}
-use mathlib.Core.Bool.{cond}
 use mathlib.Core.List.{List}
 use Prim.Native.Nat.{ℕ, _+_, _-_, _*_, _/_, _≤_, _<_}
 use native.Mathlib.Nat.{mul-le-mul-right}
 use native.Mathlib.Omega.{arith}
 use native.Mathlib.Decide.{decLt}
-use lib.ListN.{getD, take, drop}
-use lib.Seq.{ext-getD}
+use lib.ListN.{take, drop}
 use lib.Dec.{ltb}
 use borrow.Author.Tests.{lt-ltb, le-ltb}
 use Rattle.little.proofs.Laws.{byteLaws}
 use Rattle.cauchy.specs.Code.{wordAt}
 use Rattle.cauchy.specs.Calls.{filled, inRange}
 use Rattle.cauchy.specs.inner.Promises.{Room}
-use Rattle.cauchy.proofs.blocks.Filled.{length-filled, getD-filled}
+use Rattle.cauchy.proofs.blocks.Filled.{same-filled}
 
 -- ---- nothing filled, and one block more
 
-none-at : (s first count v : ℕ) (base : List ℕ) (q : ℕ) → cond (inRange s first count 0 q) v (getD base q 0) ≡ getD base q 0
+pub none-filled : (s first count : ℕ) (g : ℕ → ℕ → ℕ) (base : List ℕ) → base ≡ filled s first count 0 g base
 unfolding inRange
-none-at s first count v base q = rw (le-ltb (q / s) 0 (omega arith))
-
-pub none-filled : (s first count : ℕ) (g : ℕ → ℕ → ℕ) (base : List ℕ) → first + count ≤ s / 2 → base ≡ filled s first count 0 g base
-none-filled s first count g base h =
-    sym (ext-getD 0 (filled s first count 0 g base) base (length-filled s first count h 0 g base)
-    (λ q m. getD-filled s first count h 0 g base q (omega (arith, length-filled s first count h 0 g base)) ∙ none-at s first count _ base q))
+none-filled s first count g base = sym (same-filled s first count 0 g base (λ q. rw (le-ltb (q / s) 0 (omega arith))))
 
 pub ltb-other : (l t : ℕ) → (l ≡ t → ⊥) → ltb l t ≡ ltb l (t + 1)
 ltb-other l t n = go (decLt l t)

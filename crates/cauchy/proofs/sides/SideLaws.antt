@@ -64,7 +64,7 @@ own-words l n e b =
 
 module _ (n m s first count e part size : ℕ) (marks rows store base : List ℕ) (room : Room s first count e part size) where
   pub sided-start : Sided n m s first count marks rows store base 0 base
-  sided-start = none-filled s first count (sideAt n m s marks rows store) base (room .words)
+  sided-start = none-filled s first count (sideAt n m s marks rows store) base
 
   row-put : (i at width : ℕ) (F out : List ℕ) → i < e → length base ≡ size → at ≡ i * s + 2 * first → width ≡ 2 * count
       → Sided n m s first count marks rows store base i F → out ≡ wordBytes (λ v. sideAt n m s marks rows store i (first + v)) 0 count
@@ -115,7 +115,7 @@ module _ (n m s first count e part size : ℕ) (marks rows store base : List ℕ
   pub sided-end : (i : ℕ) (F : List ℕ) → i ≡ e → e ≤ length rows → Sided n m s first count marks rows store base i F → F ≡ sidesScratch n m s first count e marks rows store base
   sided-end i F ei he here =
       here ∙ ap (λ (x : ℕ). filled s first count x (sideAt n m s marks rows store) base) ei
-      ∙ filled-ext s first count e (sideAt n m s marks rows store) (λ l w. getD (sides n m s marks store w (take e rows)) l 0) base (room .words)
+      ∙ filled-ext s first count e (sideAt n m s marks rows store) (λ l w. getD (sides n m s marks store w (take e rows)) l 0) base
       (λ l w h _ _.
       sym (getD-sides n m s marks store w (take e rows) l (omega (arith, length-take-le e rows he)) ∙ ap (side n m s marks store w) (getD-take e rows l 0 h)))
 

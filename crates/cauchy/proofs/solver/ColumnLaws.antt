@@ -13,7 +13,7 @@ use Rattle.cauchy.specs.inner.Ranges.{columned, Steps, Solves}
 
 module _ (s first count e : ℕ) (words : first + count ≤ s / 2) where
   length-columned : (cs : ℕ → List ℕ) (base : List ℕ) → length (columned s first count e cs base) ≡ length base
-  length-columned cs base = length-filled s first count words e (λ l w. getD (cs w) l 0) base
+  length-columned cs base = length-filled s first count e (λ l w. getD (cs w) l 0) base
 
   module _ (cs : ℕ → List ℕ) (base F : List ℕ) (k at width : ℕ) (here : F ≡ columned s first count e cs base)
       (hk : k < e) (inside : e * s ≤ length F) (ea : at ≡ k * s + 2 * first) (ew : width ≡ 2 * count) where
@@ -58,10 +58,10 @@ module _ (s first count e : ℕ) (words : first + count ≤ s / 2) where
         record { made = r .made; whole = r .whole; here = r .here; each = λ w. q (cs w) (p .made w) (r .made w) (whole .size w) (p .each w) (r .each w) }
 
 -- a step that makes of each column its unknowns
-pub steps-solve : (s first count : ℕ) (xs ys old new : List ℕ) → first + count ≤ s / 2
+pub steps-solve : (s first count : ℕ) (xs ys old new : List ℕ)
     → Steps (λ a a′. a′ ≡ solve field xs ys a) s first count (length xs) old new → Solves s first count xs ys old new
-steps-solve s first count xs ys old new words steps cs base whole here =
+steps-solve s first count xs ys old new steps cs base whole here =
     let p = steps cs base whole here in
     p .here
-    ∙ filled-ext s first count (length xs) (λ l w. getD (p .made w) l 0) (λ l w. getD (solve field xs ys (cs w)) l 0) base words
+    ∙ filled-ext s first count (length xs) (λ l w. getD (p .made w) l 0) (λ l w. getD (solve field xs ys (cs w)) l 0) base
     (λ l w _ _ _. ap (λ (x : List ℕ). getD x l 0) (p .each w))

@@ -13,7 +13,7 @@ returns : tie.Need-returns
 returns c =
     let q = c .before .before .before .before .before .before .before .before .before .before .before .before .before .before .before .before .before .before in
     let a = q .args in
-    steps-solve (a .s) (a .first) (a .count) (a .xs .now) (a .ys .now) (a .b .now) _ (q .pre .0 .words)
+    steps-solve (a .s) (a .first) (a .count) (a .xs .now) (a .ys .now) (a .b .now) _
     (steps-then (a .s) (a .first) (a .count) (length (a .xs .now)) (q .pre .0 .words) (λ x y. y ≡ forward field (a .xs .now) (a .ys .now) x) (λ x y. y ≡ backward field (a .xs .now) (a .ys .now) x) _ (a .b .now) _ _
     (λ x y z k f g. g ∙ ap (backward field (a .xs .now) (a .ys .now)) f ∙ sym (solve-passes field (a .xs .now) (a .ys .now) x)) (c .before .before .before .before .before .before .before .before .before .before .before .pass-forward .ensures) (c .before .before .before .before .pass-backward .ensures))
 
