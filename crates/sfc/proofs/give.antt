@@ -1,8 +1,9 @@
--- Laws of the prefix, of rebuilding, of the blocks from where they lie (GatherLaws), of hand-out and block request.
+-- Laws of the prefix, of rebuilding, of the blocks from where they lie (GatherLaws), of turn, release and block request.
 pub mod PrefixLaws
 pub mod GatherLaws
 pub mod RebuildLaws
-pub mod HandOutLaws
+pub mod TurnLaws
+pub mod ReleaseLaws
 pub mod BlockLaws
 pub mod GivenLaws
 pub mod UnseenLaws

@@ -1,5 +1,5 @@
--- Laws of marks, tallies and offers; histories; what a session of an accepted header is (RightLaws); copies, order, and where a chunk
--- broke.
+-- Laws of marks, tallies and offers, and of what is kept beside them (KeptLaws); histories; what a session of an accepted header is
+-- (RightLaws); copies, order, and where a chunk broke.
 pub mod MarkLaws
 pub mod TallyLaws
 pub mod SessionLaws
@@ -15,4 +15,5 @@ pub mod TallyMarks
 pub mod CopyTheorems
 pub mod OrderTheorems
 pub mod BreakLaws
+pub mod KeptLaws
 pub mod SpotTheorems

@@ -1,7 +1,7 @@
 -- What the floors above may rely on beside the calls' promises and the theorems: how lists of checks decide, what is known once 71
--- lets something through, how a chunk is measured and offered, and what is known of a file that our writer wrote. Statements, proved in
+-- lets something through, how a chunk is measured and offered, what a turn and a release give, and what is known of a file that our writer wrote. Statements, proved in
 -- proofs/Laws.antt; no other law of this crate is seen above.
-use Prim.Native.Nat.{ℕ, _+_, _-_, _*_, _≤_, _<_}
+use Prim.Native.Nat.{ℕ, _+_, _-_, _*_, _/_, _≤_, _<_}
 use mathlib.Core.Path.{_≡_}
 use mathlib.Core.Bool.{true, false, cond}
 use mathlib.Core.List.{List, _++_}
@@ -15,11 +15,16 @@ use Rattle.sfc.specs.format.Limits.{wantedBlocks}
 use Rattle.sfc.specs.format.Header.{lengthField, acceptedHeader, readHeader}
 use Rattle.sfc.specs.format.Chunk.{chunkLength, chunkChecks, measureChecks, measureChunk}
 use Rattle.sfc.specs.session.Marks.{isHeld, heldCount}
-use Rattle.sfc.specs.session.Lent.{shapeWrong, marksWrong, lentWrong}
+use Rattle.sfc.specs.session.Lent.{shapeWrong, marksWrong, lentWrong, lentOf, rebuildWrong}
 use Rattle.sfc.specs.session.Right.{RightShape, RightMarks, RightLent}
 use Rattle.sfc.specs.session.Tallies.{total, tallyFull}
 use Rattle.sfc.specs.session.Session.{Session, blank, sessionWrong, markChecks, welcomed, verdictOf}
 use Rattle.sfc.specs.session.History.{afterAll}
+use Rattle.sfc.specs.session.Offer.{Logged, besideWrong, loggedAll}
+use Rattle.sfc.specs.give.HandOut.{contentChecks}
+use Rattle.sfc.specs.give.Turns.{Turning, turn, release}
+use Rattle.sfc.specs.give.TurnTheorems.{OwnOffer}
+use Rattle.sfc.specs.answer.Places.{place}
 use Rattle.sfc.specs.note.Missing.{unheldFrom}
 use Rattle.sfc.specs.writing.Writer.{Input, size, blocks, body, chunk, fileOf, headFor}
 use Rattle.sfc.specs.demand.Demand1.{Leaves, Ends}
@@ -31,6 +36,7 @@ use Rattle.sfc.specs.declared.format.chunk.ChunkMeasured.the-variants.{L
 use Rattle.sfc.specs.declared.format.header.Head.{Head}
 use Rattle.sfc.specs.declared.session.tallies.Tallies.{Tallies}
 use Rattle.sfc.specs.declared.session.offer.Verdict.the-variants.{Refused as NotTaken}
+use Rattle.sfc.specs.declared.give.release.HandedOut.the-variants.{Complete, Refused as NotHandedOut}
 
 -- ---- lists of checks
 
@@ -94,6 +100,24 @@ pub record OfferLaws : Type 0 where
   -- each offer adds one to the tallies at most, so that fewer than 43's number never fill them
   pub total-all : (h : Head) (x : Session) (cs : List (List ℕ)) → total (afterAll h x cs .tallies) ≤ total (x .tallies) + length cs
   pub not-full : (t : Tallies) → total t < 4294967295 → tallyFull t ≡ false
+  -- what was rebuilt has no say in the session: offers to all that is kept are offers to the session inside, whose answer they give
+  pub own-offer : (h : Head) (y : Logged) (c : List ℕ) → besideWrong h y ≡ false → OwnOffer h y c
+  pub own-offers : (h : Head) (y : Logged) (cs : List (List ℕ)) → besideWrong h y ≡ false
+      → (loggedAll h y cs .session ≡ afterAll h (y .session) cs) × (besideWrong h (loggedAll h y cs) ≡ false)
+
+-- ---- what is given
+
+pub record GiveLaws : Type 0 where
+  -- a turn with a budget for all columns, whatever lies in scratch, and a release: past 71 and 52 what is held decides
+  pub whole-turn : (h : Head) (store marks scratch numbers out : List ℕ) → rebuildWrong h store marks (lentOf scratch numbers out) ≡ false
+      → h .size ≤ length out → (z : Turning) → z ≡ turn h store marks scratch numbers 0 (h .s / 2)
+      → release h store marks (z .scratch) (z .finished) out .answer
+      ≡ checked (contentChecks h store marks) NotHandedOut (Complete (place (h .size)))
+  -- and both leave scratch as long as it was
+  pub turn-long : (h : Head) (store marks scratch numbers : List ℕ) (f b : ℕ)
+      → (length (turn h store marks scratch numbers f b .scratch) ≡ length scratch)
+      × (length (turn h store marks scratch numbers f b .numbers) ≡ length numbers)
+  pub release-long : (h : Head) (store marks scratch : List ℕ) (f : ℕ) (out : List ℕ) → length (release h store marks scratch f out .scratch) ≡ length scratch
 
 -- ---- marks that are counted
 

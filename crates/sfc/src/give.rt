@@ -1,6 +1,7 @@
-// What is given of a session: its prefix, the whole content, one block.
+// What is given of a session: its prefix, the whole content (rebuilt in turns, then released), one block.
 pub mod block;
 pub mod gather;
-pub mod hand_out;
 pub mod prefix;
 pub mod rebuild;
+pub mod release;
+pub mod turn;

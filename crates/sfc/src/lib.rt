@@ -9,9 +9,10 @@ mod writing;
 // A refusal's reason, and its number.
 pub use answer::reason::Reason;
 pub use answer::reason::number_of;
-// What a list of checks came to; how many bytes were written; which block, which byte, and where an input broke.
+// What a list of checks came to; how many bytes were written; which block, which byte, how many columns, and where an input broke.
 pub use answer::places::BlockNumber;
 pub use answer::places::BytePlace;
+pub use answer::places::ColumnCount;
 pub use answer::places::Spot;
 pub use answer::reason::Checked;
 pub use answer::written::Written;
@@ -42,9 +43,14 @@ pub use give::prefix::prefix;
 // One data block, held or rebuilt, unverified.
 pub use give::block::BlockGiven;
 pub use give::block::block;
-// The whole content, where it has the header's hash.
-pub use give::hand_out::HandedOut;
-pub use give::hand_out::hand_out;
+// The missing data blocks, rebuilt some word columns at a time.
+pub use give::turn::TurnAnswer;
+pub use give::turn::Turned;
+pub use give::turn::rebuild_turn;
+// The whole content after that, where it has the header's hash.
+pub use give::release::HandedOut;
+pub use give::release::Released;
+pub use give::release::release;
 // The unknown data blocks, index by index.
 pub use note::missing::Listed;
 pub use note::missing::list_missing;

@@ -36,7 +36,7 @@ use Rattle.sfc_listing.specs.OwnFile.{OwnFile}
 use Rattle.sfc.specs.declared.format.header.Head.{Head}
 use Rattle.sfc.specs.declared.answer.reason.Checked.the-variants.{Good}
 use Rattle.sfc.specs.declared.session.offer.Verdict.the-variants.{Fresh, Repeat}
-use Rattle.sfc.specs.declared.give.hand_out.HandedOut.the-variants.{Complete, Refused}
+use Rattle.sfc.specs.declared.give.release.HandedOut.the-variants.{Complete, Refused}
 use Rattle.sfc.proofs.Laws.{checkLaws, lentLaws, writtenLaws, countLaws}
 use Rattle.sfc.proofs.Theorems.{demand2}
 use Rattle.sfc_walk.proofs.WalkTheorems.{walk-theorems}

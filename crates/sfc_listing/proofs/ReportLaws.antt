@@ -35,8 +35,8 @@ use Rattle.sfc.specs.declared.session.marks.MarksCounted.{MarksCounted}
 use Rattle.sfc.specs.declared.session.marks.MarksCounted.the-variants.{Counts, Refused as NotCounted}
 use Rattle.sfc.specs.declared.note.missing.Listed.{Listed}
 use Rattle.sfc.specs.declared.note.missing.Listed.the-variants.{Count, Refused as Unlisted}
-use Rattle.sfc.specs.declared.give.hand_out.HandedOut.{HandedOut}
-use Rattle.sfc.specs.declared.give.hand_out.HandedOut.the-variants.{Complete, Refused as NotHandedOut}
+use Rattle.sfc.specs.declared.give.release.HandedOut.{HandedOut}
+use Rattle.sfc.specs.declared.give.release.HandedOut.the-variants.{Complete, Refused as NotHandedOut}
 use Rattle.sfc_listing.specs.declared.lines.LastWord.{LastWord}
 use Rattle.sfc_listing.specs.declared.lines.LastWord.the-variants.{Complete as Whole, HashDiffers, Incomplete}
 use Rattle.sfc.proofs.Laws.{checkLaws, lentLaws, offerLaws}

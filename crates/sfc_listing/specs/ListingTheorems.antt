@@ -27,8 +27,8 @@ use Rattle.sfc.specs.declared.answer.reason.Reason.{Reason}
 use Rattle.sfc.specs.declared.answer.reason.Checked.the-variants.{Good}
 use Rattle.sfc.specs.declared.session.offer.Verdict.{Verdict}
 use Rattle.sfc.specs.declared.session.offer.Verdict.the-variants.{Fresh, Repeat, Refused}
-use Rattle.sfc.specs.declared.give.hand_out.HandedOut.{HandedOut}
-use Rattle.sfc.specs.declared.give.hand_out.HandedOut.the-variants.{Complete, Refused as NotHandedOut}
+use Rattle.sfc.specs.declared.give.release.HandedOut.{HandedOut}
+use Rattle.sfc.specs.declared.give.release.HandedOut.the-variants.{Complete, Refused as NotHandedOut}
 
 -- ---- a file
 

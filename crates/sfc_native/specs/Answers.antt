@@ -9,7 +9,7 @@ use Rattle.sfc.specs.writing.Writer.{Input, inputOf}
 use Rattle.sfc.specs.declared.format.header.Head.{Head}
 use Rattle.sfc.specs.declared.answer.reason.Checked.{Checked}
 use Rattle.sfc.specs.declared.answer.reason.Checked.the-variants.{Good, Refused}
-use Rattle.sfc.specs.declared.give.hand_out.HandedOut.{HandedOut}
+use Rattle.sfc.specs.declared.give.release.HandedOut.{HandedOut}
 use Rattle.sfc.specs.declared.answer.written.Written.{Written}
 
 -- 0 for complete, and document 01's number for a refusal

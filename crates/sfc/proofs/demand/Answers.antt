@@ -39,7 +39,7 @@ use Rattle.sfc.specs.declared.format.chunk.ChunkChecked.{ChunkChecked}
 use Rattle.sfc.specs.declared.format.chunk.ChunkMeasured.{ChunkMeasured}
 use Rattle.sfc.specs.declared.session.offer.Verdict.{Verdict}
 use Rattle.sfc.specs.declared.session.marks.MarksCounted.{MarksCounted}
-use Rattle.sfc.specs.declared.give.hand_out.HandedOut.{HandedOut}
+use Rattle.sfc.specs.declared.give.release.HandedOut.{HandedOut}
 use Rattle.sfc.specs.declared.give.prefix.PrefixGiven.{PrefixGiven}
 use Rattle.sfc.specs.declared.give.block.BlockGiven.{BlockGiven}
 use Rattle.sfc.specs.declared.note.missing.Listed.{Listed}

@@ -41,8 +41,8 @@ use Rattle.sfc.specs.declared.format.chunk.ChunkChecked.the-variants.{Re
 use Rattle.sfc.specs.declared.format.lookup.FieldFound.{FieldFound}
 use Rattle.sfc.specs.declared.format.lookup.FieldFound.the-variants.{At, Nothing, Refused as NotShown}
 use Rattle.sfc.specs.declared.session.offer.Verdict.the-variants.{Refused as NotTaken}
-use Rattle.sfc.specs.declared.give.hand_out.HandedOut.{HandedOut}
-use Rattle.sfc.specs.declared.give.hand_out.HandedOut.the-variants.{Complete, Refused as NotHandedOut}
+use Rattle.sfc.specs.declared.give.release.HandedOut.{HandedOut}
+use Rattle.sfc.specs.declared.give.release.HandedOut.the-variants.{Complete, Refused as NotHandedOut}
 use Rattle.sfc.specs.declared.give.prefix.PrefixGiven.{PrefixGiven}
 use Rattle.sfc.specs.declared.give.prefix.PrefixGiven.the-variants.{Unverified as PrefixUnverified, Refused as NoPrefix}
 use Rattle.sfc.specs.declared.give.block.BlockGiven.{BlockGiven}

@@ -34,8 +34,8 @@ use Rattle.sfc.specs.session.Right.{RightShape, RightLent}
 use Rattle.sfc.specs.declared.answer.reason.Checked.the-variants.{Good}
 use Rattle.sfc.specs.declared.session.offer.Verdict.{Verdict}
 use Rattle.sfc.specs.declared.session.offer.Verdict.the-variants.{Fresh, Repeat}
-use Rattle.sfc.specs.declared.give.hand_out.HandedOut.{HandedOut}
-use Rattle.sfc.specs.declared.give.hand_out.HandedOut.the-variants.{Complete}
+use Rattle.sfc.specs.declared.give.release.HandedOut.{HandedOut}
+use Rattle.sfc.specs.declared.give.release.HandedOut.the-variants.{Complete}
 use Rattle.sfc.proofs.session.MarkLaws.{right-shape}
 use Rattle.sfc.proofs.session.SessionLaws.{right-lent, verdict-fresh, verdict-repeat}
 use Rattle.sfc.proofs.session.HistoryLaws.{after-tallies, total-counted, not-full}

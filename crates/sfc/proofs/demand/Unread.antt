@@ -3,7 +3,7 @@
 use Prim.Native.Nat.{ℕ, _+_, _≤_}
 use mathlib.Core.Path.{_≡_, refl, sym, ap, _∙_}
 use mathlib.Core.Logic.{_≢_}
-use mathlib.Core.Bool.{true≢false}
+use mathlib.Core.Bool.{Bool, true, false, true≢false}
 use mathlib.Core.List.{List, [], _∷_, _++_}
 use native.Mathlib.Omega.{arith}
 use borrow.Author.Tests.{le-ltb, ne-eqb}
@@ -17,12 +17,13 @@ use Rattle.blake3.specs.Tree.{hash}
 use Rattle.blake3.proofs.Laws.{hashLaws}
 use Rattle.little.specs.Runs.{zeros}
 use Rattle.sfc.specs.answer.Numbers.{Check, checked, verdict, numberOf}
-use Rattle.sfc.specs.session.Lent.{shapeWrong}
+use Rattle.sfc.specs.session.Lent.{shapeWrong, rebuildingWrong}
 use Rattle.sfc.specs.format.Chunk.{chunkMagic, endMarker, indexOf, typeOf, payloadLength, payloadOf, chunkLength, typeFor, chunkChecks, aloneChecks}
 use Rattle.sfc.specs.format.Spot.{spotFor, refusedChunk, checkChunk}
 use Rattle.sfc.specs.answer.Places.{number, place}
 use Rattle.sfc.specs.session.Tallies.{tallyFull}
-use Rattle.sfc.specs.session.Session.{Session, sessionWrong, markChecks, welcomed, verdictOf, settled, after, spotOf, offered}
+use Rattle.sfc.specs.session.Session.{Session, sessionWrong, markChecks, welcomed, verdictOf, settled, after, spotOf}
+use Rattle.sfc.specs.session.Offer.{logged, restarts, offerVerdict, loggedAfter, offered}
 use Rattle.sfc.specs.demand.Unread.{Unread}
 use Rattle.sfc.proofs.answer.CheckLaws.{EachHeld, number-held, good-all, refused-all}
 use Rattle.sfc.proofs.format.PlaceLaws.{le-front, stands-front}
@@ -145,9 +146,13 @@ module _ (c rest : List ℕ) (whole : chunkLength c ≤ length c) where
       same-broken (Repeat i p) e = refl
       same-broken (Refused r) e = same-place r (λ low. own-offer h x c r low (offer-refused h x c r e))
 
-      same-offered : offered h x (c ++ rest) ≡ offered h x c
-      unfolding offered
-      same-offered = rw (same-after, same-verdict, same-broken (verdictOf h x c) refl)
+      same-offered : (scratch : List ℕ) (f : ℕ) → offered h (logged x scratch f) (c ++ rest) ≡ offered h (logged x scratch f) c
+      unfolding offered loggedAfter offerVerdict
+      same-offered scratch f = go (rebuildingWrong (h .m) (h .s) scratch f) refl
+        where
+          go : (b : Bool) → rebuildingWrong (h .m) (h .s) scratch f ≡ b → offered h (logged x scratch f) (c ++ rest) ≡ offered h (logged x scratch f) c
+          go true e = rw e
+          go false e = rw (e, same-verdict, same-settled (verdictOf h x c), same-broken (verdictOf h x c) refl)
 
 pub unread : Unread
 unread =

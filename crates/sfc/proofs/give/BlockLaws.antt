@@ -9,7 +9,7 @@ use borrow.Author.Tests.{eq-eqb, ne-eqb}
 use lib.Dec.{ltb, leb}
 use lib.ListN.{length, getD, take, drop}
 use lib.Seq.{length-take-le}
-use Rattle.little.specs.Parts.{part, put}
+use Rattle.little.specs.Parts.{part, put, block}
 use Rattle.little.proofs.Laws.{blockLaws, partLaws, putLaws}
 use Rattle.cauchy.specs.Decode.{held, rank, decode}
 use Rattle.cauchy.proofs.Laws.{missingLaws}
@@ -25,7 +25,7 @@ use Rattle.sfc.specs.declared.answer.reason.Reason.the-variants.{Few, Ou
 use Rattle.sfc.specs.declared.give.block.BlockGiven.{BlockGiven}
 use Rattle.sfc.specs.declared.give.block.BlockGiven.the-variants.{Unverified, Refused as NoBlock}
 use Rattle.sfc.proofs.session.HeldLaws.{decode-held}
-use Rattle.sfc.proofs.give.GatherLaws.{row-in, row-block}
+use Rattle.sfc.proofs.give.GatherLaws.{row-in, piece-lost, restored-gathers, piece-restored}
 use Rattle.sfc.proofs.give.RebuildLaws.{few-told, enough-told}
 
 -- ---- the block request
@@ -100,7 +100,7 @@ module _ (n m s : ℕ) (store marks scratch numbers : List ℕ) (able : Rebuilda
 
   module _ (after : List ℕ) (restored : Restored n m s marks store after) (lost : getD marks j 0 ≡ 1 → ⊥) (row : ℕ) (row-is : row ≡ rank j marks) where
     pub lost-in : row * s + s ≤ length after
-    lost-in = row-in n m s marks store after restored j h lost row row-is
+    lost-in = row-in n s marks store after (restored-gathers n m s marks store after restored) j h lost row row-is
 
     pub lost-long : length (part after (row * s) (row * s + s - row * s)) ≡ s
     lost-long = partLaws .cut-long after (row * s) s lost-in
@@ -111,4 +111,4 @@ module _ (n m s : ℕ) (store marks scratch numbers : List ℕ) (able : Rebuilda
     lost-given out ys room f =
         let w : row * s + s - row * s ≡ s = omega arith in
         putLaws .copied-front out (part after (row * s) (row * s + s - row * s)) ys s room lost-long f
-        ∙ ap (put out 0) (ap (part after (row * s)) w ∙ row-block n m s marks store after restored j h lost row row-is)
+        ∙ ap (put out 0) (ap (part after (row * s)) w ∙ ap (block s after) row-is ∙ sym (piece-lost n s marks store after (restored-gathers n m s marks store after restored) j h lost) ∙ piece-restored n m s marks store after restored j h)

@@ -26,8 +26,8 @@ use Rattle.sfc.specs.demand.Demand3.{Gives, Withholds, HandsOut}
 use Rattle.sfc.specs.declared.format.header.Head.{Head}
 use Rattle.sfc.specs.declared.answer.places.BytePlace.{BytePlace}
 use Rattle.sfc.specs.declared.answer.reason.Reason.{Reason}
-use Rattle.sfc.specs.declared.give.hand_out.HandedOut.{HandedOut}
-use Rattle.sfc.specs.declared.give.hand_out.HandedOut.the-variants.{Complete, Refused}
+use Rattle.sfc.specs.declared.give.release.HandedOut.{HandedOut}
+use Rattle.sfc.specs.declared.give.release.HandedOut.the-variants.{Complete, Refused}
 use Rattle.sfc.proofs.answer.CheckLaws.{all-passed, good-all, let-through}
 use Rattle.sfc.proofs.session.HeldLaws.{decode-held, length-content}
 

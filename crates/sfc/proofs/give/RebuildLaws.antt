@@ -1,6 +1,6 @@
 -- Rebuilding: what it may take for granted past 71, what the code's call answers, and which blocks then lie in scratch. Assumes
 -- nothing.
-use Prim.Native.Nat.{ℕ, _+_, _-_, _*_, _/_, _%_, _≤_}
+use Prim.Native.Nat.{ℕ, _+_, _-_, _*_, _/_, _%_, _^_, _<_, _≤_}
 use mathlib.Core.Path.{_≡_, refl, sym, _∙_, ap}
 use mathlib.Core.Bool.{Bool, true, false, cond, not, _||_, true≢false, false≢true}
 use mathlib.Core.List.{List}
@@ -9,9 +9,10 @@ use native.Mathlib.Nat.{mul-le-mul-right}
 use borrow.Author.Tests.{eq-eqb, ne-eqb, le-ltb, ltb-false, eqb-true, not-false, not-true}
 use lib.Dec.{eqb, ltb}
 use lib.ListN.{length, replicate}
+use Rattle.little.specs.Runs.{zeros}
 use Rattle.little.proofs.Laws.{testLaws}
 use Rattle.cauchy.specs.Decode.{holding, missingData}
-use Rattle.cauchy.specs.Calls.{wrongShape, wrongMemory, Rebuilt, decodedScratch, rebuildAllSpec}
+use Rattle.cauchy.specs.Calls.{wrongShape, wrongMemory, Rebuilt, rebuilt, rebuiltScratch, rebuildSpec, decodedScratch, rebuildAllSpec}
 use Rattle.cauchy.specs.declared.Answer.{Answer}
 use Rattle.cauchy.proofs.Theorems.{theorems}
 use Rattle.cauchy.proofs.Laws.{missingLaws}
@@ -31,6 +32,15 @@ pub rebuild-told : (h : Head) (store marks : List ℕ) (l : Lent) (r t : Bool)
     → rebuildWrong h store marks l ≡ t
 unfolding rebuildWrong
 rebuild-told h store marks l r t e f = sym e ∙ f
+
+pub wrong-first : (x a b : Bool) → x ≡ true → true ≡ (x || a || b)
+wrong-first x a b e = rw e
+
+pub wrong-rest : (x a b : Bool) → x ≡ false → (a || b) ≡ (x || a || b)
+wrong-rest x a b e = rw e
+
+pub scratch-small : (size n m s : ℕ) (store marks : List ℕ) → lentWrong size n m s store marks ≡ false → m * s < 2 ^ 64
+scratch-small size n m s store marks e = let r = right-lent size n m s store marks e in omega (arith, r .shape .small, mul-le-mul-right {m = m} {n = n + m} s (omega arith))
 
 -- past it: the shape, and what can be rebuilt from
 pub record RightRebuild (h : Head) (store marks : List ℕ) (l : Lent) : Type 0 where
@@ -70,10 +80,10 @@ cut-right size n m s r = record {
 
 -- ---- what the code's call answers
 
-able-shape : (n m s : ℕ) (store marks scratch numbers : List ℕ) → Rebuildable n m s store marks scratch numbers
-    → (wrongShape n m s || wrongMemory n m s (length marks) (length store) (length scratch) (length numbers) 0 (s / 2)) ≡ false
+able-shape : (n m s : ℕ) (store marks scratch numbers : List ℕ) → Rebuildable n m s store marks scratch numbers → (first count : ℕ) → first + count ≤ s / 2
+    → (wrongShape n m s || wrongMemory n m s (length marks) (length store) (length scratch) (length numbers) first count) ≡ false
 unfolding wrongShape wrongMemory
-able-shape n m s store marks scratch numbers r =
+able-shape n m s store marks scratch numbers r first count fits =
     rw (
       ne-eqb n 0 (λ z. omega (arith, r .n-least)),
       le-ltb 1024 n (r .n-most),
@@ -85,8 +95,8 @@ able-shape n m s store marks scratch numbers r =
       eq-eqb (length store) ((n + m) * s) (r .store-long),
       eq-eqb (length scratch) (m * s) (r .scratch-long),
       eq-eqb (length numbers) 1024 (r .numbers-long),
-      le-ltb (s / 2) 0 (omega arith),
-      le-ltb (s / 2 - 0) (s / 2) (omega arith),
+      le-ltb (s / 2) first (omega arith),
+      le-ltb (s / 2 - first) count (omega arith),
     )
 
 rebuilt-cases : (n m s : ℕ) (store marks scratch numbers : List ℕ) → Rebuildable n m s store marks scratch numbers
@@ -94,7 +104,14 @@ rebuilt-cases : (n m s : ℕ) (store marks scratch numbers : List ℕ) → Rebui
     ≡ cond (ltb (heldCount marks) n) (record { scratch = scratch; numbers = numbers; answer = Answer.TooFew })
     (record { scratch = decodedScratch n m s marks store scratch; numbers = replicate 1024 0; answer = Answer.Done })
 unfolding rebuildAllSpec
-rebuilt-cases n m s store marks scratch numbers r = rw (able-shape n m s store marks scratch numbers r)
+rebuilt-cases n m s store marks scratch numbers r = rw (able-shape n m s store marks scratch numbers r 0 (s / 2) (omega arith))
+
+pub columns-cases : (n m s : ℕ) (store marks scratch numbers : List ℕ) → Rebuildable n m s store marks scratch numbers → (first count : ℕ) → first + count ≤ s / 2
+    → rebuildSpec n m s marks store scratch numbers first count
+    ≡ cond (ltb (heldCount marks) n) (rebuilt scratch numbers Answer.TooFew)
+    (rebuilt (rebuiltScratch n m s marks store first count scratch) (zeros 1024) Answer.Done)
+unfolding rebuildSpec
+columns-cases n m s store marks scratch numbers r first count fits = rw (able-shape n m s store marks scratch numbers r first count fits)
 
 abbrev pub isDone : Answer → Bool
 isDone Answer.Done = true

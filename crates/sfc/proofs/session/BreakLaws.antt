@@ -14,11 +14,11 @@ use Rattle.sfc.specs.answer.Places.{number, place}
 use Rattle.sfc.specs.answer.Said.{chunkSpot}
 use Rattle.sfc.specs.format.Chunk.{indexOf, payloadLength, chunkLength, sealChecks, headChecks, chunkChecks, aloneChecks}
 use Rattle.sfc.specs.format.Spot.{spotFor, refusedChunk, checkChunk}
-use Rattle.sfc.specs.inner.Steps.{Judged, judged}
 use Rattle.sfc.specs.inner.Spots.{SpotFits, Fitting}
 use Rattle.sfc.specs.session.Lent.{shapeWrong, marksWrong, lentWrong}
 use Rattle.sfc.specs.session.Tallies.{tallyFull}
-use Rattle.sfc.specs.session.Session.{Session, mark, sessionWrong, markChecks, offerChecks, welcomed, verdictOf, spotOf, Offered, offered}
+use Rattle.sfc.specs.session.Session.{Session, mark, sessionWrong, markChecks, offerChecks, welcomed, verdictOf, spotOf}
+use Rattle.sfc.specs.session.Offer.{Logged, besideWrong, allChecks, offerVerdict, offered}
 use Rattle.sfc.specs.declared.format.header.Head.{Head}
 use Rattle.sfc.specs.declared.answer.places.Spot.{Spot}
 use Rattle.sfc.specs.declared.answer.reason.Reason.{Reason}
@@ -61,19 +61,19 @@ module _ (h : Head) (x : Session) (c : List ℕ) where
       welcome true = refl
       welcome false = refl
 
-  pub offer-spot : (v : Verdict) → verdictOf h x c ≡ v → offered h x c .spot ≡ spotOf h c v
+-- an offer to all that is kept: one check more
+module _ (h : Head) (y : Logged) (c : List ℕ) where
+  pub kept-refused : (r : Reason) → offerVerdict h y c ≡ Refused r → verdict (allChecks h y c) ≡ Wrong r
+  unfolding offerVerdict
+  kept-refused r e = go (besideWrong h y) e
+    where
+      go : (b : Bool) → cond b (Refused (reasonOf 71)) (verdictOf h (y .session) c) ≡ Refused r → verdict ((b, 71) ∷ offerChecks h (y .session) c) ≡ Wrong r
+      go true f = ap offerSeen f
+      go false f = offer-refused h (y .session) c r f
+
+  pub offer-spot : (v : Verdict) → offerVerdict h y c ≡ v → offered h y c .spot ≡ spotOf h c v
   unfolding offered
   offer-spot v e = ap (spotOf h c) e
-
-  -- an offer as the code finds it: the verdict first, and then its place
-  module _ (y : Judged) (e : y ≡ judged h x c) where
-    pub verdict-judged : y .verdict ≡ verdictOf h x c
-    unfolding judged
-    verdict-judged = ap (λ (z : Judged). z .verdict) e
-
-    pub offered-judged : (p : Spot) → p ≡ spotOf h c (y .verdict) → _≡_ {A = Offered} (record { session = y .session; verdict = y .verdict; spot = p }) (offered h x c)
-    unfolding judged offered
-    offered-judged p f = rw (f, e)
 
 -- ---- a refusal by 30 to 40 is one of the chunk's own checks
 
@@ -110,6 +110,13 @@ module _ (h : Head) (x : Session) (c : List ℕ) (r : Reason) (low : numberOf r 
       go true b f g = absurd (let n : 71 ≡ numberOf r = ap numberOf (wrong-one (reasonOf 71) r g) in omega (arith, n, low))
       go false true f g = absurd (let n : 43 ≡ numberOf r = ap numberOf (wrong-one (reasonOf 43) r g) in omega (arith, n, low))
       go false false f g = record { shape = shape-passed f; refuses = own-part (verdict (chunkChecks h c)) refl g }
+
+pub own-kept : (h : Head) (y : Logged) (c : List ℕ) (r : Reason) → numberOf r ≤ 40 → verdict (allChecks h y c) ≡ Wrong r → Own h c r
+own-kept h y c r low e = go (besideWrong h y) e
+  where
+    go : (b : Bool) → verdict ((b, 71) ∷ offerChecks h (y .session) c) ≡ Wrong r → Own h c r
+    go true g = absurd (let n : 71 ≡ numberOf r = ap numberOf (wrong-one (reasonOf 71) r g) in omega (arith, n, low))
+    go false g = own-offer h (y .session) c r low g
 
 -- ---- how far the length was read
 

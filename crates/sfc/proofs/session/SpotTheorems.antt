@@ -17,7 +17,8 @@ use Rattle.sfc.specs.answer.Places.{place}
 use Rattle.sfc.specs.format.Bytes.{standsAt}
 use Rattle.sfc.specs.format.Chunk.{chunkMagic, endMarker, indexOf, payloadLength, chunkLength, typeFor, chunkChecks, aloneChecks}
 use Rattle.sfc.specs.format.Spot.{spotAt, agreeing, firstOther, spotFor}
-use Rattle.sfc.specs.session.Session.{Session, markChecks, offerChecks, spotOf, offered}
+use Rattle.sfc.specs.session.Session.{markChecks, spotOf}
+use Rattle.sfc.specs.session.Offer.{Logged, allChecks, offered}
 use Rattle.sfc.specs.session.SpotTheorems.{Gives, FirstWrong, PlaceTable, FirstWrongs}
 use Rattle.sfc.specs.declared.format.header.Head.{Head}
 use Rattle.sfc.specs.declared.answer.reason.Reason.{Reason}
@@ -29,7 +30,7 @@ use Rattle.sfc.specs.declared.session.offer.Verdict.the-variants.{Fresh,
 use Rattle.sfc.proofs.answer.CheckLaws.{EachHeld, number-held, blamed}
 use Rattle.sfc.proofs.format.SpotLaws.{agreeing-short, agreeing-inside, first-wrong, number-apart}
 use Rattle.sfc.proofs.session.MarkLaws.{right-shape}
-use Rattle.sfc.proofs.session.BreakLaws.{check-refused, offer-refused, offer-spot, Own, own-check, own-offer}
+use Rattle.sfc.proofs.session.BreakLaws.{check-refused, kept-refused, offer-spot, Own, own-check, own-kept}
 
 at-one : (p q : ℕ) → spotAt p ≡ spotAt q → p ≡ q
 at-one p q e = let b : place p ≡ place q = cc in ap (λ (x : BytePlace). x .0) b
@@ -49,22 +50,23 @@ module _ (h : Head) (c : List ℕ) (r : Reason) (p : Spot) where
   given-spot : Gives h c r p → p ≡ spotFor h c (numberOf r)
   unfolding offered spotOf
   given-spot (inl e) = check-refused h c r p e .1
-  given-spot (inr (x, e, f)) = sym f ∙ offer-spot h x c (Refused r) e
+  given-spot (inr (y, e, f)) = sym f ∙ offer-spot h y c (Refused r) e
 
   -- a fact of each number that either call gives is one of the number given
   given-number : (P : ℕ → Type 0) → EachHeld P (chunkChecks h c) → P 71 → P 43 → (Passed (chunkChecks h c) → P 42) → (Passed (chunkChecks h c) → P 41)
       → Gives h c r p → P (numberOf r)
   unfolding offered
   given-number P own p71 p43 p42 p41 (inl e) = number-held P (aloneChecks h c) r (λ _. p71, λ _. own) (check-refused h c r p e .0)
-  given-number P own p71 p43 p42 p41 (inr (x, e, f)) =
-      number-held P (offerChecks h x c) r (λ _. p71, λ _. (λ _. p43, λ _. each-then P (chunkChecks h c) (markChecks h x c) own (λ w. (λ _. p42 w, λ _. (λ _. p41 w, λ _. tt)))))
-      (offer-refused h x c r e)
+  given-number P own p71 p43 p42 p41 (inr (y, e, f)) =
+      number-held P (allChecks h y c) r
+      (λ _. p71, λ _. (λ _. p71, λ _. (λ _. p43, λ _. each-then P (chunkChecks h c) (markChecks h (y .session) c) own (λ w. (λ _. p42 w, λ _. (λ _. p41 w, λ _. tt))))))
+      (kept-refused h y c r e)
 
   -- 30 to 40 come from the chunk's own checks
   given-own : numberOf r ≤ 40 → Gives h c r p → Own h c r
   unfolding offered
   given-own low (inl e) = own-check h c r (check-refused h c r p e .0) low
-  given-own low (inr (x, e, f)) = own-offer h x c r low (offer-refused h x c r e)
+  given-own low (inr (y, e, f)) = own-kept h y c r low (kept-refused h y c r e)
 
 -- ---- the table
 
@@ -138,11 +140,11 @@ no-place h c r p g = (
     back (inl e) = ap (spotFor h c) e
     back (inr e) = ap (spotFor h c) e
 
-taken : (h : Head) (x : Session) (c : List ℕ) (i : BlockNumber) (p : BytePlace)
-    → (offered h x c .verdict ≡ Fresh i p) ⊎ (offered h x c .verdict ≡ Repeat i p) → offered h x c .spot ≡ Nowhere
+taken : (h : Head) (y : Logged) (c : List ℕ) (i : BlockNumber) (p : BytePlace)
+    → (offered h y c .verdict ≡ Fresh i p) ⊎ (offered h y c .verdict ≡ Repeat i p) → offered h y c .spot ≡ Nowhere
 unfolding offered spotOf
-taken h x c i p (inl e) = ap (spotOf h c) e
-taken h x c i p (inr e) = ap (spotOf h c) e
+taken h y c i p (inl e) = ap (spotOf h c) e
+taken h y c i p (inr e) = ap (spotOf h c) e
 
 -- ---- the place lies inside
 

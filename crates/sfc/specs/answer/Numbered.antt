@@ -17,11 +17,11 @@ numbersUpTo (suc most) r rest =
 abbrev pub table : List ℕ
 table = numbersUpTo 60 lastRow []
 
--- the numbers that the paper's table has for a container; 72, the hash's, is blake3's own
+-- the numbers that document 01's table has for a container, and 54 of document 02, [8]; 72, the hash's, is blake3's own
 abbrev pub paperTable : List ℕ
 paperTable =
     10 ∷ 11 ∷ 12 ∷ 13 ∷ 14 ∷ 15 ∷ 16 ∷ 17 ∷ 18 ∷ 19 ∷ 20 ∷ 21 ∷ 22 ∷ 23 ∷ 30 ∷ 31 ∷ 32 ∷ 33 ∷ 34 ∷ 35 ∷ 36 ∷ 37 ∷ 38 ∷ 39 ∷ 40 ∷ 41
-    ∷ 42 ∷ 43 ∷ 50 ∷ 51 ∷ 52 ∷ 53 ∷ 60 ∷ 61 ∷ 70 ∷ 71 ∷ []
+    ∷ 42 ∷ 43 ∷ 50 ∷ 51 ∷ 52 ∷ 53 ∷ 54 ∷ 60 ∷ 61 ∷ 70 ∷ 71 ∷ []
 
 -- whether a test holds of each
 abbrev pub each : (ℕ → Bool) → List ℕ → Bool
@@ -31,7 +31,7 @@ each p (k ∷ ks) = p k && each p ks
 pub record Numbered : Type 0 where
   -- no number stands twice
   pub rising : risingFrom 0 table ≡ true
-  -- each number of the paper's table has its reason, and that reason this number
+  -- each number of the papers has its reason, and that reason this number
   pub paper-back : each (λ (k : ℕ). eqb (numberOf (reasonOf k)) k) paperTable ≡ true
   -- and so has each of our rows
   pub number-back : each (λ (k : ℕ). eqb (numberOf (reasonOf k)) k) table ≡ true

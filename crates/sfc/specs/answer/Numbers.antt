@@ -1,5 +1,5 @@
--- The numbers of document 01's table, one for each reason, and lists of checks that are tried in order. Assumes nothing:
--- these are definitions.
+-- The numbers of document 01's table and 54 of document 02, [8], one for each reason, and lists of checks that are tried in
+-- order. Assumes nothing: these are definitions.
 use Prim.Native.Nat.{ℕ, zero, suc}
 use mathlib.Core.Path.{_≡_}
 use mathlib.Core.Bool.{Bool, true, false, cond, not, _&&_}
@@ -43,7 +43,8 @@ row Reason.Few = (50, Reason.TallyFull)
 row Reason.ContentHash = (51, Reason.Few)
 row Reason.OutputShort = (52, Reason.ContentHash)
 row Reason.NoDataBlock = (53, Reason.OutputShort)
-row Reason.WriterInput = (60, Reason.NoDataBlock)
+row Reason.Unfinished = (54, Reason.NoDataBlock)
+row Reason.WriterInput = (60, Reason.Unfinished)
 row Reason.WriterOutput = (61, Reason.WriterInput)
 row Reason.Note = (70, Reason.WriterOutput)
 row Reason.Lent = (71, Reason.Note)

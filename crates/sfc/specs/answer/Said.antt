@@ -15,7 +15,8 @@ use Rattle.sfc.specs.declared.format.chunk.ChunkChecked.{ChunkChecked}
 use Rattle.sfc.specs.declared.format.chunk.ChunkMeasured.{ChunkMeasured}
 use Rattle.sfc.specs.declared.session.offer.Verdict.{Verdict}
 use Rattle.sfc.specs.declared.session.marks.MarksCounted.{MarksCounted}
-use Rattle.sfc.specs.declared.give.hand_out.HandedOut.{HandedOut}
+use Rattle.sfc.specs.declared.give.release.HandedOut.{HandedOut}
+use Rattle.sfc.specs.declared.give.turn.Turned.{Turned}
 use Rattle.sfc.specs.declared.give.prefix.PrefixGiven.{PrefixGiven}
 use Rattle.sfc.specs.declared.give.block.BlockGiven.{BlockGiven}
 use Rattle.sfc.specs.declared.note.missing.Listed.{Listed}
@@ -85,6 +86,11 @@ countedSaid (MarksCounted.Counts held barred) = says "counts" (held ∷ barred �
 countedSaid (MarksCounted.Refused r) = refused (numberOf r)
 
 -- ---- what is given
+
+-- how many word columns were rebuilt
+abbrev pub turnedSaid : Turned → Said
+turnedSaid (Turned.Did k) = says "did" (k .0 ∷ [])
+turnedSaid (Turned.Refused r) = refused (numberOf r)
 
 -- the place where the content ends
 abbrev pub handedOutSaid : HandedOut → Said

@@ -8,7 +8,7 @@ use mathlib.Core.List.{List, [], _∷_}
 use lib.Dec.{eqb}
 use lib.ListN.{length}
 use Rattle.little.specs.Said.{says, Apart}
-use Rattle.sfc.specs.answer.Said.{byNumber, checkedSaid, headerSaid, noteSaid, fieldSaid, chunkSaid, chunkSpot, spotSaid, measuredSaid, verdictSaid, countedSaid, handedOutSaid, prefixSaid, blockSaid, listedSaid, writtenSaid}
+use Rattle.sfc.specs.answer.Said.{byNumber, checkedSaid, headerSaid, noteSaid, fieldSaid, chunkSaid, chunkSpot, spotSaid, measuredSaid, verdictSaid, countedSaid, turnedSaid, handedOutSaid, prefixSaid, blockSaid, listedSaid, writtenSaid}
 use Rattle.sfc.specs.format.Header.{headerChecks, regionOf, readHeader}
 use Rattle.sfc.specs.format.Extension.{fieldsOf}
 use Rattle.sfc.specs.format.Lookup.{foundAmong, extensionOf, extensionPlace, findField}
@@ -16,8 +16,9 @@ use Rattle.sfc.specs.format.Chunk.{indexOf, chunkLength, measureChecks, 
 use Rattle.sfc.specs.format.Spot.{spotFor, checkChunk}
 use Rattle.sfc.specs.session.Marks.{heldCount, barredCount}
 use Rattle.sfc.specs.session.Lent.{Lent, countChecks, countMarks}
-use Rattle.sfc.specs.session.Session.{Session, mark, offerChecks, offered}
-use Rattle.sfc.specs.give.HandOut.{handOutChecks, handOut}
+use Rattle.sfc.specs.session.Session.{mark}
+use Rattle.sfc.specs.session.Offer.{Logged, allChecks, offered}
+use Rattle.sfc.specs.give.Turns.{turnChecks, turnCount, turn, releaseChecks, release}
 use Rattle.sfc.specs.give.Block.{blockChecks, blockRequest}
 use Rattle.sfc.specs.give.Prefix.{prefixBlocks, prefixOf, prefixChecks, prefixGiven}
 use Rattle.sfc.specs.note.Missing.{missing, missingChecks, listMissing}
@@ -37,15 +38,18 @@ pub record Answers : Type 0 where
   pub chunk-place : (h : Head) (c : List ℕ) → chunkSpot (checkChunk h c) ≡ spotSaid (spotFor h c) (chunkSaid (checkChunk h c))
   pub measure : (h : Head) (b : List ℕ) → measuredSaid (measureChunk h b) ≡ byNumber (measureChecks h b) (says "length" (chunkLength b ∷ []))
   -- an offer: fresh for an absent index, else a repeat; the index, and its block's place in the store; where it broke
-  pub offer : (h : Head) (x : Session) (c : List ℕ) → verdictSaid (offered h x c .verdict)
-      ≡ byNumber (offerChecks h x c) (says (cond (eqb (mark x (indexOf c)) 0) "fresh" "repeat") (indexOf c ∷ indexOf c * h .s ∷ []))
-  pub offer-place : (h : Head) (x : Session) (c : List ℕ)
-      → offered h x c .spot ≡ spotSaid (spotFor h c) (verdictSaid (offered h x c .verdict))
+  pub offer : (h : Head) (y : Logged) (c : List ℕ) → verdictSaid (offered h y c .verdict)
+      ≡ byNumber (allChecks h y c) (says (cond (eqb (mark (y .session) (indexOf c)) 0) "fresh" "repeat") (indexOf c ∷ indexOf c * h .s ∷ []))
+  pub offer-place : (h : Head) (y : Logged) (c : List ℕ)
+      → offered h y c .spot ≡ spotSaid (spotFor h c) (verdictSaid (offered h y c .verdict))
   pub count : (h : Head) (marks : List ℕ) → countedSaid (countMarks h marks)
       ≡ byNumber (countChecks h marks) (says "counts" (heldCount marks ∷ barredCount marks ∷ []))
-  -- the hand-out alone says complete, with the size; the block with its place in the content, the prefix with its blocks and bytes
-  pub hand-out : (h : Head) (store marks : List ℕ) (l : Lent) → handedOutSaid (handOut h store marks l .answer)
-      ≡ byNumber (handOutChecks h store marks l) (says "complete" (h .size ∷ []))
+  -- a turn says how many columns it did; the release alone says complete, with the size; the block with its place in the content,
+  -- the prefix with its blocks and bytes
+  pub turn : (h : Head) (store marks scratch numbers : List ℕ) (f b : ℕ) → turnedSaid (turn h store marks scratch numbers f b .answer)
+      ≡ byNumber (turnChecks h store marks scratch numbers f) (says "did" (turnCount h marks f b ∷ []))
+  pub release : (h : Head) (store marks scratch : List ℕ) (f : ℕ) (out : List ℕ) → handedOutSaid (release h store marks scratch f out .answer)
+      ≡ byNumber (releaseChecks h store marks scratch f out) (says "complete" (h .size ∷ []))
   pub block : (h : Head) (store marks : List ℕ) (j : ℕ) (l : Lent) → blockSaid (blockRequest h store marks j l .answer)
       ≡ byNumber (blockChecks h store marks j l) (says "unverified" (j ∷ j * h .s ∷ []))
   pub prefix : (h : Head) (store marks out : List ℕ) → prefixSaid (prefixGiven h store marks out .answer)
@@ -72,6 +76,7 @@ pub record SaidApart : Type 0 where
   pub measured : Apart measuredSaid
   pub verdict : Apart verdictSaid
   pub counted : Apart countedSaid
+  pub turned : Apart turnedSaid
   pub handed-out : Apart handedOutSaid
   pub prefix : Apart prefixSaid
   pub block : Apart blockSaid

@@ -4,7 +4,9 @@
 -- change is not named.
 use Prim.Native.Nat.{ℕ, _+_, _*_, _≤_, _<_}
 use mathlib.Core.Path.{_≡_}
-use mathlib.Core.Bool.{true, false, not}
+use mathlib.Core.Logic.{_≢_}
+use mathlib.Core.Bool.{true, false, cond, not}
+use lib.Dec.{eqb}
 use mathlib.Core.List.{List, [], _∷_}
 use lib.ListN.{length, drop}
 use Rattle.little.specs.Runs.{zeros, among}
@@ -15,9 +17,11 @@ use Rattle.sfc.specs.format.Spot.{spotFor, checkChunk}
 use Rattle.sfc.specs.answer.Places.{place}
 use Rattle.sfc.specs.format.Lookup.{findField}
 use Rattle.sfc.specs.session.Tallies.{countedRefusal}
-use Rattle.sfc.specs.session.Session.{Session, verdictOf, after, offered}
-use Rattle.sfc.specs.session.SessionTheorems.{OneOffer}
-use Rattle.sfc.specs.give.HandOut.{lentAfter, handOut}
+use Rattle.sfc.specs.session.Offer.{Logged, besideWrong, offerVerdict, loggedAfter, offered}
+use Rattle.sfc.specs.session.SessionTheorems.{SameKept, OneOffer}
+use Rattle.sfc.specs.give.HandOut.{lentAfter}
+use Rattle.sfc.specs.give.Turns.{Turning, turningOf, turn, Releasing, releasingOf, release}
+use Rattle.sfc.specs.give.TurnTheorems.{AsBefore, OwnOffer, Restart}
 use Rattle.sfc.specs.session.Lent.{Lent, rebuildWrong, countMarks}
 use Rattle.sfc.specs.give.Block.{blockRequest}
 use Rattle.sfc.specs.give.Prefix.{prefixGiven}
@@ -34,7 +38,8 @@ use Rattle.sfc.specs.declared.answer.reason.Checked.the-variants.{Good, 
 use Rattle.sfc.specs.declared.format.chunk.ChunkChecked.the-variants.{Refused as NoChunk}
 use Rattle.sfc.specs.declared.format.lookup.FieldFound.the-variants.{At, Refused as NotShown}
 use Rattle.sfc.specs.declared.session.offer.Verdict.the-variants.{Refused as NotTaken}
-use Rattle.sfc.specs.declared.give.hand_out.HandedOut.the-variants.{Complete, Refused as NotHandedOut}
+use Rattle.sfc.specs.declared.give.turn.Turned.the-variants.{Refused as NoTurn}
+use Rattle.sfc.specs.declared.give.release.HandedOut.the-variants.{Complete, Refused as NotHandedOut}
 use Rattle.sfc.specs.declared.give.prefix.PrefixGiven.the-variants.{Unverified as PrefixUnverified, Refused as NoPrefix}
 use Rattle.sfc.specs.declared.give.block.BlockGiven.the-variants.{Unverified as BlockUnverified, Refused as NoBlock}
 use Rattle.sfc.specs.declared.note.missing.Listed.the-variants.{Count, Refused as NotListed}
@@ -82,23 +87,36 @@ pub record Demand1 : Type 0 where
   pub field-inside : (b : List ℕ) (tag p long : ℕ) → findField b tag ≡ At (place p) long
       → (readHeader b .verdict ≡ Good) × (p + long ≤ lengthField b + 12) × (lengthField b + 76 ≤ length b)
   -- An offer: 71, 43 or 30 to 42, and the place of that number. By 71 and 43 nothing changes at all; any other adds one to its own
-  -- tally. Store and marks stay by every number but 41, which bars its index.
-  pub offer-numbers : (h : Head) (x : Session) (c : List ℕ) (r : Reason) → verdictOf h x c ≡ NotTaken r
+  -- tally. Store, marks and what was rebuilt stay by every number but 41, which bars its index and begins the rebuild anew. Where 71
+  -- has nothing against what was rebuilt, the session inside answers, and what one offer changes in it is said of that.
+  pub offer-numbers : (h : Head) (y : Logged) (c : List ℕ) (r : Reason) → offerVerdict h y c ≡ NotTaken r
       → OneOf r (71 ∷ 43 ∷ 30 ∷ 31 ∷ 32 ∷ 33 ∷ 34 ∷ 35 ∷ 36 ∷ 37 ∷ 38 ∷ 39 ∷ 40 ∷ 41 ∷ 42 ∷ [])
-  pub offer-place : (h : Head) (x : Session) (c : List ℕ) (r : Reason) → verdictOf h x c ≡ NotTaken r → offered h x c .spot ≡ spotFor h c (numberOf r)
-  pub offer-uncounted : (h : Head) (x : Session) (c : List ℕ) (r : Reason) → verdictOf h x c ≡ NotTaken r → OneOf r (71 ∷ 43 ∷ [])
-      → after h x c ≡ x
-  pub offer-counted : (h : Head) (x : Session) (c : List ℕ) (r : Reason) → verdictOf h x c ≡ NotTaken r
-      → after h x c .tallies ≡ countedRefusal (x .tallies) (numberOf r)
+  pub offer-place : (h : Head) (y : Logged) (c : List ℕ) (r : Reason) → offerVerdict h y c ≡ NotTaken r
+      → offered h y c .spot ≡ spotFor h c (numberOf r)
+  pub offer-uncounted : (h : Head) (y : Logged) (c : List ℕ) (r : Reason) → offerVerdict h y c ≡ NotTaken r → OneOf r (71 ∷ 43 ∷ [])
+      → loggedAfter h y c ≡ y
+  pub offer-counted : (h : Head) (y : Logged) (c : List ℕ) (r : Reason) → offerVerdict h y c ≡ NotTaken r
+      → loggedAfter h y c .session .tallies ≡ countedRefusal (y .session .tallies) (numberOf r)
+  pub offer-kept : (h : Head) (y : Logged) (c : List ℕ) (r : Reason) → offerVerdict h y c ≡ NotTaken r → numberOf r ≢ 41
+      → SameKept (y .session) (loggedAfter h y c .session) × AsBefore y (loggedAfter h y c)
+  pub offer-inside : (h : Head) (y : Logged) (c : List ℕ) → besideWrong h y ≡ false → OwnOffer h y c
   pub one-offer : OneOffer
-  -- A hand-out: 71, 52, 50 or 51. Scratch is all zeros after every answer past 71 and 52.
-  pub hand-out-refused : (h : Head) (store marks : List ℕ) (l : Lent) (r : Reason) → handOut h store marks l .answer ≡ NotHandedOut r
-      → OneOf r (71 ∷ 52 ∷ 50 ∷ 51 ∷ []) × (handOut h store marks l .lent ≡ lentLeft r (71 ∷ 52 ∷ []) l)
-  pub hand-out-ends : (h : Head) (store marks : List ℕ) (l : Lent) (p : ℕ) → handOut h store marks l .answer ≡ Complete (place p)
-      → Ends p (l .output) (handOut h store marks l .lent .output)
-  pub hand-out-scratch : (h : Head) (store marks : List ℕ) (l : Lent) → rebuildWrong h store marks l ≡ false → h .size ≤ length (l .output)
-      → (handOut h store marks l .lent .scratch ≡ zeros (h .m * h .s)) × (handOut h store marks l .lent .numbers ≡ zeros 1024)
-  -- A request for one block: 71, 53, 52 or 50, and the like.
+  pub restart : Restart
+  -- A turn of the rebuild: 71 or 50, and nothing changes.
+  pub turn-refused : (h : Head) (store marks scratch numbers : List ℕ) (f b : ℕ) (r : Reason) → turn h store marks scratch numbers f b .answer ≡ NoTurn r
+      → OneOf r (71 ∷ 50 ∷ []) × _≡_ {A = Turning} (turn h store marks scratch numbers f b) (turningOf (NoTurn r) f scratch numbers)
+  -- A release: 71, 52, 50, 54 or 51. The output is as it was; by 51 scratch and count are zeros, as they are after complete, and by
+  -- every other number nothing changes.
+  pub release-refused : (h : Head) (store marks scratch : List ℕ) (f : ℕ) (out : List ℕ) (r : Reason)
+      → release h store marks scratch f out .answer ≡ NotHandedOut r
+      → OneOf r (71 ∷ 52 ∷ 50 ∷ 54 ∷ 51 ∷ [])
+      × _≡_ {A = Releasing} (release h store marks scratch f out)
+      (releasingOf (NotHandedOut r) (cond (eqb (numberOf r) 51) 0 f) (cond (eqb (numberOf r) 51) (zeros (length scratch)) scratch) out)
+  pub release-ends : (h : Head) (store marks scratch : List ℕ) (f : ℕ) (out : List ℕ) (p : ℕ)
+      → release h store marks scratch f out .answer ≡ Complete (place p)
+      → Ends p out (release h store marks scratch f out .output)
+      × (release h store marks scratch f out .scratch ≡ zeros (length scratch)) × (release h store marks scratch f out .finished ≡ 0)
+  -- A request for one block: 71, 53, 52 or 50. Its own scratch is all zeros after every answer past 71, 53 and 52.
   pub block-refused : (h : Head) (store marks : List ℕ) (j : ℕ) (l : Lent) (r : Reason) → blockRequest h store marks j l .answer ≡ NoBlock r
       → OneOf r (71 ∷ 53 ∷ 52 ∷ 50 ∷ []) × (blockRequest h store marks j l .lent ≡ lentLeft r (71 ∷ 53 ∷ 52 ∷ []) l)
   pub block-ends : (h : Head) (store marks : List ℕ) (j : ℕ) (l : Lent) (i : BlockNumber) (p : BytePlace)

@@ -2,31 +2,33 @@
 -- file (specs/writing/Writer.antt) and the calls' own definitions. A receiver that refuses all contradicts file-read-back,
 -- offers-answered and round-trip, since any-content has lawful inputs; one with a fixed reply contradicts round-trip at two
 -- contents; and a writer that refuses all contradicts file-written.
-use Prim.Native.Nat.{ℕ, suc, _+_, _*_, _≤_, _<_}
+use Prim.Native.Nat.{ℕ, suc, _+_, _*_, _/_, _≤_, _<_}
 use mathlib.Core.Path.{_≡_}
-use mathlib.Core.Bool.{true, false, cond}
+use mathlib.Core.Bool.{false, cond}
 use mathlib.Core.List.{List, [], _∷_, _++_, map}
 use lib.ListN.{length}
 use Rattle.little.specs.Fields.{Bytes}
 use Rattle.little.specs.Parts.{part, put}
 use Rattle.sfc.specs.answer.Numbers.{Answered}
 use Rattle.sfc.specs.format.Limits.{wantedBlocks}
-use Rattle.sfc.specs.session.Lent.{shapeWrong, Lent}
+use Rattle.sfc.specs.session.Lent.{shapeWrong}
+use Rattle.sfc.specs.session.Tallies.{sum}
 use Rattle.sfc.specs.format.Header.{readHeader, acceptedHeader}
 use Rattle.sfc.specs.format.Chunk.{payloadOf}
 use Rattle.sfc.specs.format.Spot.{checkChunk}
 use Rattle.sfc.specs.answer.Places.{number, place}
 use Rattle.sfc.specs.session.Session.{Session, blank}
 use Rattle.sfc.specs.session.History.{afterAll, verdicts}
-use Rattle.sfc.specs.give.HandOut.{Rebuilding, lentAfter, handOut}
-use Rattle.little.specs.Runs.{among}
+use Rattle.sfc.specs.session.Offer.{Logged, blankLogged}
+use Rattle.sfc.specs.give.Turns.{columnsLeft, Releasing, releasingOf, Act, releasing, actedAll, offersIn}
+use Rattle.sfc.specs.give.TurnTheorems.{inTurns}
+use Rattle.little.specs.Runs.{zeros, among}
 use Rattle.sfc.specs.writing.Writer.{Input, size, blocks, body, region, preamble, trailer, payload, chunk, fileOf, inputWrong, writeFile, headFor}
 use Rattle.sfc.specs.demand.Demand3.{CompleteHasHash}
 use Rattle.sfc.specs.declared.format.chunk.ChunkChecked.the-variants.{Whole}
 use Rattle.sfc.specs.declared.session.offer.Verdict.{Verdict}
 use Rattle.sfc.specs.declared.session.offer.Verdict.the-variants.{Fresh, Repeat}
-use Rattle.sfc.specs.declared.give.hand_out.HandedOut.{HandedOut}
-use Rattle.sfc.specs.declared.give.hand_out.HandedOut.the-variants.{Complete}
+use Rattle.sfc.specs.declared.give.release.HandedOut.the-variants.{Complete}
 use Rattle.sfc.specs.declared.answer.written.Written.{Written}
 use Rattle.sfc.specs.declared.answer.written.Written.the-variants.{Bytes as Took}
 
@@ -63,11 +65,10 @@ answers w seen [] = []
 answers w seen (i ∷ is) =
     cond (among i seen) (Repeat (number i) (place (i * w .s))) (Fresh (number i) (place (i * w .s))) ∷ answers w (i ∷ seen) is
 
--- what is lent to the hand-out has the right size
-pub record RoomFor (w : Input) (l : Lent) : Type 0 where
-  pub scratch-long : length (l .scratch) ≡ w .m * w .s
-  pub numbers-long : length (l .numbers) ≡ 1024
-  pub output-long : size w ≤ length (l .output)
+-- a release over y says complete, and gives the content; nothing is left in scratch
+abbrev pub GivenBack : Input → Logged → List ℕ → Type 0
+GivenBack w y out =
+    _≡_ {A = Releasing} (releasing (headFor w) y out) (releasingOf (Complete (place (size w))) 0 (zeros (w .m * w .s)) (put out 0 (w .content)))
 
 -- ---- the demand
 
@@ -92,10 +93,14 @@ pub record Demand2 : Type 0 where
   -- Chunks of the file in any order, repeated at will short of 43, are each welcomed.
   pub offers-answered : (w : Input) → Lawful w → (is : List ℕ) → AllBelow (blocks w + w .m) is → length is ≤ 4294967295
       → verdicts (headFor w) (blank (headFor w)) (map (chunk w) is) ≡ answers w [] is
-  -- With N different ones among them the hand-out gives the content, and calls it complete.
+  -- With N different ones among them, turns and a release give the content, and call it complete: whatever lies in scratch, in turns
+  -- of any budgets that suffice for all columns,
   pub round-trip : (w : Input) → Lawful w → (is : List ℕ) → AllBelow (blocks w + w .m) is → length is ≤ 4294967295 → blocks w ≤ different is
-      → (l : Lent) → RoomFor w l
-      → _≡_ {A = Rebuilding HandedOut} (handOut (headFor w) (received w is .store) (received w is .marks) l)
-      (record { answer = Complete (place (size w)); lent = lentAfter true l (put (l .output) 0 (w .content)) })
+      → (scratch budgets out : List ℕ) → length scratch ≡ w .m * w .s → w .s / 2 ≤ sum budgets → size w ≤ length out
+      → GivenBack w (inTurns (headFor w) (received w is) scratch budgets) out
+  -- and where turns and releases came between the offers, as soon as no column is left.
+  pub round-trip-between : (w : Input) → Lawful w → (is : List ℕ) → AllBelow (blocks w + w .m) is → length is ≤ 4294967295 → blocks w ≤ different is
+      → (acts : List Act) → offersIn acts ≡ map (chunk w) is → (y : Logged) → y ≡ actedAll (headFor w) (blankLogged (headFor w)) acts
+      → columnsLeft (blocks w) (w .s) (y .session .marks) (y .finished) ≡ 0 → (out : List ℕ) → size w ≤ length out → GivenBack w y out
   -- And complete is said, by any session, only of bytes that have the header's hash.
   pub complete-has-hash : CompleteHasHash

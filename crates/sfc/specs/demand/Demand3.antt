@@ -1,7 +1,7 @@
 -- Demand 3 of the minutes: no receiver could honestly give more. Statements, proved in proofs/demand/Demand3.antt. They are about the
 -- calls' own definitions and about the writer's code (`codeBlock`): a list of N blocks fits if its code has, at each held
 -- index, what the store has there. Padding fits like any other bytes, and no hash has a say in it.
-use Prim.Native.Nat.{ℕ, _+_, _*_, _≤_, _<_}
+use Prim.Native.Nat.{ℕ, _+_, _*_, _/_, _≤_, _<_}
 use mathlib.Core.Path.{_≡_}
 use mathlib.Core.Logic.{_↔_}
 use mathlib.Core.Bool.{true, false, cond}
@@ -12,7 +12,7 @@ use Rattle.little.specs.Parts.{put, block}
 use Rattle.blake3.specs.Tree.{hash}
 use Rattle.cauchy.specs.Code.{Blocks, Held, Fits}
 use Rattle.cauchy.specs.Decode.{usedMarks}
-use Rattle.little.specs.Runs.{same, among, risingFrom}
+use Rattle.little.specs.Runs.{zeros, same, among, risingFrom}
 use Rattle.sfc.specs.answer.Numbers.{reasonOf, Answered}
 use Rattle.sfc.specs.format.Header.{readHeader, acceptedHeader}
 use Rattle.sfc.specs.answer.Places.{number, place}
@@ -20,7 +20,10 @@ use Rattle.sfc.specs.session.Marks.{heldCount}
 use Rattle.sfc.specs.session.Session.{Session, blank, blockOf, sessionWrong}
 use Rattle.sfc.specs.session.History.{afterAll}
 use Rattle.sfc.specs.give.Prefix.{prefixGiven}
-use Rattle.sfc.specs.give.HandOut.{Rebuilding, lentAfter, handOut}
+use Rattle.sfc.specs.session.Tallies.{sum}
+use Rattle.sfc.specs.give.HandOut.{Rebuilding, lentAfter}
+use Rattle.sfc.specs.give.Turns.{turn, Releasing, releasingOf, release, releasing}
+use Rattle.sfc.specs.give.TurnTheorems.{inTurns}
 use Rattle.sfc.specs.session.Lent.{Lent, rebuildWrong}
 use Rattle.sfc.specs.give.Block.{blockRequest}
 use Rattle.sfc.specs.note.Missing.{missing, listMissing}
@@ -29,8 +32,7 @@ use Rattle.sfc.specs.declared.format.header.Head.{Head}
 use Rattle.sfc.specs.declared.answer.places.BytePlace.{BytePlace}
 use Rattle.sfc.specs.declared.give.block.BlockGiven.{BlockGiven}
 use Rattle.sfc.specs.declared.give.block.BlockGiven.the-variants.{Unverified, Refused}
-use Rattle.sfc.specs.declared.give.hand_out.HandedOut.{HandedOut}
-use Rattle.sfc.specs.declared.give.hand_out.HandedOut.the-variants.{Complete, Refused as NotHandedOut}
+use Rattle.sfc.specs.declared.give.release.HandedOut.the-variants.{Complete, Refused as NotHandedOut}
 use Rattle.sfc.specs.declared.note.missing.Listed.{Listed}
 use Rattle.sfc.specs.declared.note.missing.Listed.the-variants.{Count}
 
@@ -72,13 +74,14 @@ Withholds h x j = (l : Lent) → Room h x l (h .s)
     → _≡_ {A = Rebuilding BlockGiven} (blockRequest h (x .store) (x .marks) j l)
     (record { answer = Refused (reasonOf 50); lent = lentAfter true l (l .output) })
 
--- a hand-out gives the first `size` bytes of d, and says complete, if they have the header's hash; if not, it refuses by 51
+-- turns over any scratch, of budgets for all columns, and a release: it gives the first `size` bytes of d, and says complete, if they
+-- have the header's hash; if not, it refuses by 51
 abbrev pub HandsOut : Head → Session → List ℕ → Type 0
-HandsOut h x d = (l : Lent) → Room h x l (h .size)
-    → _≡_ {A = Rebuilding HandedOut} (handOut h (x .store) (x .marks) l)
+HandsOut h x d = (scratch budgets out : List ℕ) → length scratch ≡ h .m * h .s → h .s / 2 ≤ sum budgets → h .size ≤ length out
+    → _≡_ {A = Releasing} (releasing h (inTurns h x scratch budgets) out)
     (cond (same (hash (take (h .size) d)) (h .hash))
-    (record { answer = Complete (place (h .size)); lent = lentAfter true l (put (l .output) 0 (take (h .size) d)) })
-    (record { answer = NotHandedOut (reasonOf 51); lent = lentAfter true l (l .output) }))
+    (releasingOf (Complete (place (h .size))) 0 (zeros (h .m * h .s)) (put out 0 (take (h .size) d)))
+    (releasingOf (NotHandedOut (reasonOf 51)) 0 (zeros (h .m * h .s)) out))
 
 -- data block j is one that nobody could know: too few are held, and it is not
 pub record Open (h : Head) (x : Session) (j : ℕ) : Type 0 where
@@ -96,17 +99,18 @@ pub record SameHeld (h : Head) (x y : Session) : Type 0 where
   pub store-long : length (y .store) ≡ length (x .store)
   pub blocks : (i : ℕ) → i < h .n + h .m → Held (x .marks) i → blockOf h y i ≡ blockOf h x i
 
--- d has what a hand-out or a block request used: the held data blocks and, of the recovery blocks, as many as data blocks
+-- d has what a rebuild or a block request used: the held data blocks and, of the recovery blocks, as many as data blocks
 -- are missing, the lowest held
 pub record Used (h : Head) (x : Session) (d : List ℕ) : Type 0 where
   pub blocks : Blocks (h .n) (h .s) d
   pub fits : Fits (h .n) (h .m) (h .s) (usedMarks (h .n) (x .marks)) (x .store) d
 
--- complete is said only of bytes that have the header's hash: they stand in the output, as many as the header's size says
+-- complete is said only of bytes that have the header's hash, whatever scratch and count are: they stand in the output, as many as
+-- the header's size says
 abbrev pub CompleteHasHash : Type 0
 CompleteHasHash =
-    (h : Head) (store marks : List ℕ) (l : Lent) (p : BytePlace) → handOut h store marks l .answer ≡ Complete p
-    → (p ≡ place (h .size)) × (h .size ≤ length (l .output)) × (hash (take (h .size) (handOut h store marks l .lent .output)) ≡ h .hash)
+    (h : Head) (store marks scratch : List ℕ) (f : ℕ) (out : List ℕ) (p : BytePlace) → release h store marks scratch f out .answer ≡ Complete p
+    → (p ≡ place (h .size)) × (h .size ≤ length out) × (hash (take (h .size) (release h store marks scratch f out .output)) ≡ h .hash)
 
 -- ---- the demand
 
@@ -133,7 +137,7 @@ pub record Demand3 : Type 0 where
   pub missing-given : (h : Head) (x : Session) → Right h x → (out : List ℕ) → length (missing (h .n) (x .marks)) ≤ length out
       → _≡_ {A = Answered Listed} (listMissing h (x .marks) out)
       (record { answer = Count (length (missing (h .n) (x .marks))); output = put out 0 (missing (h .n) (x .marks)) })
-  -- Beside the demand: the hand-out gives the same data, and complete is said only of bytes that have the header's hash.
+  -- Beside the demand: turns and a release give the same data, and complete is said only of bytes that have the header's hash.
   pub content-known : (h : Head) (x : Session) → Right h x → h .n ≤ heldIn x → (d : List ℕ) → Fitting h x d → HandsOut h x d
   pub complete-has-hash : CompleteHasHash
   -- Up to N held, some list fits. With more, and one of them forged, none may: what is given is then the one list that has
@@ -144,5 +148,6 @@ pub record Demand3 : Type 0 where
   -- And never is absence taken for bytes: whatever lies in the store where nothing is held, no answer depends on it.
   pub absent-unseen : (h : Head) (x y : Session) → SameHeld h x y
       → ((l : Lent) (j : ℕ) → blockRequest h (y .store) (y .marks) j l ≡ blockRequest h (x .store) (x .marks) j l)
-      × ((l : Lent) → handOut h (y .store) (y .marks) l ≡ handOut h (x .store) (x .marks) l)
+      × ((scratch numbers : List ℕ) (f b : ℕ) → turn h (y .store) (y .marks) scratch numbers f b ≡ turn h (x .store) (x .marks) scratch numbers f b)
+      × ((scratch : List ℕ) (f : ℕ) (out : List ℕ) → release h (y .store) (y .marks) scratch f out ≡ release h (x .store) (x .marks) scratch f out)
       × ((out : List ℕ) → prefixGiven h (y .store) (y .marks) out ≡ prefixGiven h (x .store) (x .marks) out)

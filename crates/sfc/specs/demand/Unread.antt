@@ -9,7 +9,8 @@ use Rattle.sfc.specs.answer.Numbers.{verdict}
 use Rattle.sfc.specs.format.Header.{lengthField, readHeader}
 use Rattle.sfc.specs.format.Chunk.{indexOf, payloadOf, chunkLength, chunkChecks}
 use Rattle.sfc.specs.format.Spot.{checkChunk}
-use Rattle.sfc.specs.session.Session.{Session, verdictOf, after, offered}
+use Rattle.sfc.specs.session.Session.{Session, verdictOf, after}
+use Rattle.sfc.specs.session.Offer.{logged, offered}
 use Rattle.sfc.specs.declared.format.header.Head.{Head}
 
 pub record Unread : Type 0 where
@@ -18,9 +19,10 @@ pub record Unread : Type 0 where
   pub after-chunk : (h : Head) → length (h .uuid) ≡ 16 → (c rest : List ℕ) → chunkLength c ≤ length c
       → (verdict (chunkChecks h (c ++ rest)) ≡ verdict (chunkChecks h c)) × (payloadOf (c ++ rest) ≡ payloadOf c) × (indexOf (c ++ rest) ≡ indexOf c)
       × (checkChunk h (c ++ rest) ≡ checkChunk h c)
-  -- Nor do they in an offer's verdict and the session after it; so `offer` does the same with them and without.
+  -- Nor do they in an offer's verdict, its place and all that is kept after it; so `offer` does the same with them and without.
   pub after-offer : (h : Head) → length (h .uuid) ≡ 16 → (x : Session) (c rest : List ℕ) → chunkLength c ≤ length c
-      → (verdictOf h x (c ++ rest) ≡ verdictOf h x c) × (after h x (c ++ rest) ≡ after h x c) × (offered h x (c ++ rest) ≡ offered h x c)
+      → (verdictOf h x (c ++ rest) ≡ verdictOf h x c) × (after h x (c ++ rest) ≡ after h x c)
+      × ((scratch : List ℕ) (f : ℕ) → offered h (logged x scratch f) (c ++ rest) ≡ offered h (logged x scratch f) c)
   -- Where the input begins with bytes a as long as their length field says, preamble and region, right or wrong, and ends with
   -- 64 bytes t, the header read does not depend on what lies between.
   pub between : (a mid mid′ t : List ℕ) → length a ≡ lengthField a + 12 → length t ≡ 64

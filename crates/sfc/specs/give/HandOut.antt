@@ -1,5 +1,5 @@
--- The hand-out (document 01, "Marks, hand-out, prefix"): the one call that says complete. Assumes nothing: these are
--- definitions.
+-- The hand-out (document 01, "Marks, hand-out, prefix"): what turns and a release come to (give/Turns, give/TurnTheorems), and
+-- what a call that rebuilds leaves of scratch. Assumes nothing: these are definitions.
 use Prim.Native.Nat.{ℕ}
 use mathlib.Core.Bool.{Bool, cond, not}
 use mathlib.Core.List.{List, [], _∷_, _++_}
@@ -9,16 +9,16 @@ use Rattle.little.specs.Parts.{put}
 use Rattle.blake3.specs.Tree.{hash}
 use Rattle.cauchy.specs.Decode.{decoded}
 use Rattle.little.specs.Runs.{zeros, same}
-use Rattle.sfc.specs.answer.Numbers.{Check, checked, passes, Answered}
+use Rattle.sfc.specs.answer.Numbers.{Check, checked, Answered}
 use Rattle.sfc.specs.answer.Places.{place}
 use Rattle.sfc.specs.session.Marks.{heldCount}
-use Rattle.sfc.specs.session.Lent.{Lent, lentOf, rebuildWrong}
+use Rattle.sfc.specs.session.Lent.{Lent, lentOf, lentWrong}
 use Rattle.sfc.specs.declared.format.header.Head.{Head}
 use Rattle.sfc.specs.declared.answer.reason.Reason.{Reason}
-use Rattle.sfc.specs.declared.give.hand_out.HandedOut.{HandedOut}
-use Rattle.sfc.specs.declared.give.hand_out.HandedOut.the-variants.{Complete, Refused}
+use Rattle.sfc.specs.declared.give.release.HandedOut.{HandedOut}
+use Rattle.sfc.specs.declared.give.release.HandedOut.the-variants.{Complete, Refused}
 
--- what a call that may rebuild answers, and what is lent holds afterwards
+-- what a call that rebuilds and gives answers, and what is lent holds afterwards
 pub record Rebuilding (A : Type 0) : Type 0 where
   pub answer : A
   pub lent : Lent
@@ -33,13 +33,15 @@ lentAfter past l out =
     (record { scratch = zeros (length (l .scratch)); numbers = zeros (length (l .numbers)); output = out })
     (record { scratch = l .scratch; numbers = l .numbers; output = out })
 
--- the file's content: the N data blocks joined, as far as the file's size, so that no padding is in it
+-- ---- the content
+
+-- the N data blocks joined, as far as the file's size, so that no padding is in it
 unfoldable pub contentOf : Head → List ℕ → List ℕ → List ℕ
 contentOf h store marks = take (h .size) (decoded (h .n) (h .m) (h .s) marks store)
 
 -- 71 and 52, of what is lent
-abbrev pub handOutLent : Head → List ℕ → List ℕ → Lent → List Check
-handOutLent h store marks l = (rebuildWrong h store marks l, 71) ∷ (ltb (length (l .output)) (h .size), 52) ∷ []
+abbrev pub handOutLent : Head → List ℕ → List ℕ → List ℕ → List Check
+handOutLent h store marks out = (lentWrong (h .size) (h .n) (h .m) (h .s) store marks, 71) ∷ (ltb (length out) (h .size), 52) ∷ []
 
 -- 50 and 51, of what is held
 abbrev pub contentChecks : Head → List ℕ → List ℕ → List Check
@@ -47,19 +49,12 @@ contentChecks h store marks =
     (ltb (heldCount marks) (h .n), 50) ∷ (not (same (hash (contentOf h store marks)) (h .hash)), 51) ∷ []
 
 -- all checks of a hand-out, in order
-abbrev pub handOutChecks : Head → List ℕ → List ℕ → Lent → List Check
-handOutChecks h store marks l = handOutLent h store marks l ++ contentChecks h store marks
+abbrev pub handOutChecks : Head → List ℕ → List ℕ → List ℕ → List Check
+handOutChecks h store marks out = handOutLent h store marks out ++ contentChecks h store marks
 
 -- complete, with the size as the place where the answer ends; the output changes with no refusal, and never past that place
-unfoldable pub handOut : Head → List ℕ → List ℕ → Lent → Rebuilding HandedOut
-handOut h store marks l = record {
-  answer = checked (handOutChecks h store marks l) Refused (Complete (place (h .size)));
-  lent = lentAfter (passes (handOutLent h store marks l)) l (checked (handOutChecks h store marks l) (λ (r : Reason). l .output) (put (l .output) 0 (contentOf h store marks)));
-}
-
--- the same past 71 and 52, without the scratch
-unfoldable pub contentGiven : Head → List ℕ → List ℕ → List ℕ → Answered HandedOut
-contentGiven h store marks out = record {
-  answer = checked (contentChecks h store marks) Refused (Complete (place (h .size)));
-  output = checked (contentChecks h store marks) (λ (r : Reason). out) (put out 0 (contentOf h store marks));
+unfoldable pub handOut : Head → List ℕ → List ℕ → List ℕ → Answered HandedOut
+handOut h store marks out = record {
+  answer = checked (handOutChecks h store marks out) Refused (Complete (place (h .size)));
+  output = checked (handOutChecks h store marks out) (λ (r : Reason). out) (put out 0 (contentOf h store marks));
 }

@@ -1,9 +1,9 @@
 -- 71, wherever a call gives it (document 01, its table): what is handed in and lent does not fit together. Assumes nothing: these
 -- are definitions.
-use Prim.Native.Nat.{ℕ, _+_, _*_}
+use Prim.Native.Nat.{ℕ, _+_, _*_, _/_}
 use mathlib.Core.Bool.{Bool, not, _||_}
 use mathlib.Core.List.{List, [], _∷_}
-use lib.Dec.{eqb}
+use lib.Dec.{ltb, eqb}
 use lib.ListN.{length}
 use Rattle.sfc.specs.answer.Numbers.{Check, checked}
 use Rattle.sfc.specs.format.Limits.{unlawful, aboveHouse}
@@ -24,8 +24,8 @@ marksWrong size n m s marks = shapeWrong size n m s || not (eqb (length marks) (
 unfoldable pub lentWrong : ℕ → ℕ → ℕ → ℕ → List ℕ → List ℕ → Bool
 lentWrong size n m s store marks = marksWrong size n m s marks || not (eqb (length store) ((n + m) * s))
 
--- what is lent beside store and marks to a call that may rebuild: scratch for the rebuilt blocks, room for
--- numbers, the output
+-- what is lent beside store and marks to a call that rebuilds and gives: scratch for the rebuilt blocks, room for numbers, the
+-- output
 pub record Lent : Type 0 where
   pub scratch : List ℕ
   pub numbers : List ℕ
@@ -38,6 +38,13 @@ lentOf scratch numbers output = record { scratch = scratch; numbers = numbers; o
 unfoldable pub rebuildWrong : Head → List ℕ → List ℕ → Lent → Bool
 rebuildWrong h store marks l =
     lentWrong (h .size) (h .n) (h .m) (h .s) store marks || not (eqb (length (l .scratch)) (h .m * h .s)) || not (eqb (length (l .numbers)) 1024)
+
+-- or the scratch of a rebuild in turns is not, or more of its word columns are finished than there are
+unfoldable pub rebuildingWrong : ℕ → ℕ → List ℕ → ℕ → Bool
+rebuildingWrong m s scratch finished = not (eqb (length scratch) (m * s)) || ltb (s / 2) finished
+
+unfoldable pub columnsWrong : ℕ → ℕ → ℕ → ℕ → List ℕ → List ℕ → List ℕ → ℕ → Bool
+columnsWrong size n m s store marks scratch finished = lentWrong size n m s store marks || rebuildingWrong m s scratch finished
 
 -- ---- the count of marks, which nothing else refuses
 

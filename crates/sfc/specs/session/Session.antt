@@ -1,4 +1,4 @@
--- The session: what an offer answers, and what it makes of store, marks and tallies (document 01, "Marks, hand-out,
+-- The session: what a chunk that is offered is told, and what it makes of store, marks and tallies (document 01, "Marks, hand-out,
 -- prefix"; document 02, [4]). Assumes nothing: these are definitions.
 use Prim.Native.Nat.{ℕ, _+_, _*_}
 use mathlib.Core.Bool.{Bool, cond, not, _&&_}
@@ -91,15 +91,3 @@ unfoldable pub spotOf : Head → List ℕ → Verdict → Spot
 spotOf h c (Fresh i p) = Nowhere
 spotOf h c (Repeat i p) = Nowhere
 spotOf h c (Refused r) = spotFor h c (numberOf r)
-
--- what an offer leaves and answers
-pub record Offered : Type 0 where
-  pub session : Session
-  pub verdict : Verdict
-  pub spot : Spot
-
-abbrev pub offeredOf : List ℕ → List ℕ → Tallies → Verdict → Spot → Offered
-offeredOf store marks tallies verdict spot = record { session = sessionOf store marks tallies; verdict = verdict; spot = spot }
-
-unfoldable pub offered : Head → Session → List ℕ → Offered
-offered h x c = record { session = after h x c; verdict = verdictOf h x c; spot = spotOf h c (verdictOf h x c) }

@@ -11,7 +11,7 @@ use Rattle.little.specs.Runs.{zeros}
 use Rattle.sfc.specs.answer.Numbers.{numberOf, reasonOf}
 use Rattle.sfc.specs.format.Chunk.{chunkMagic, endMarker, indexOf, payloadLength, chunkLength, typeFor}
 use Rattle.sfc.specs.format.Spot.{spotAt, firstOther, checkChunk}
-use Rattle.sfc.specs.session.Session.{Session, offered}
+use Rattle.sfc.specs.session.Offer.{Logged, offered}
 use Rattle.sfc.specs.declared.format.header.Head.{Head}
 use Rattle.sfc.specs.declared.answer.reason.Reason.{Reason}
 use Rattle.sfc.specs.declared.answer.places.BlockNumber.{BlockNumber}
@@ -24,7 +24,7 @@ use Rattle.sfc.specs.declared.session.offer.Verdict.the-variants.{Fresh,
 -- the check of a chunk, or the offer of it to some session, refuses it by r and says where it broke
 abbrev pub Gives : Head → List ℕ → Reason → Spot → Type 0
 Gives h c r p =
-    (checkChunk h c ≡ NoChunk r p) ⊎ ((x : Session) × (offered h x c .verdict ≡ Refused r) × (offered h x c .spot ≡ p))
+    (checkChunk h c ≡ NoChunk r p) ⊎ ((y : Logged) × (offered h y c .verdict ≡ Refused r) × (offered h y c .spot ≡ p))
 
 -- of certain bytes that are wanted from `at` on, p is the first that is another: those before it stand
 pub record FirstWrong (c : List ℕ) (at : ℕ) (wanted : List ℕ) (p : Spot) : Type 0 where
@@ -52,8 +52,8 @@ pub record PlaceTable : Type 0 where
   -- 43 and 71, and they alone, have no place; nor has what is taken
   pub no-place : (h : Head) (c : List ℕ) (r : Reason) (p : Spot) → Gives h c r p
       → (p ≡ Nowhere) ↔ ((numberOf r ≡ 43) ⊎ (numberOf r ≡ 71))
-  pub taken : (h : Head) (x : Session) (c : List ℕ) (i : BlockNumber) (p : BytePlace)
-      → (offered h x c .verdict ≡ Fresh i p) ⊎ (offered h x c .verdict ≡ Repeat i p) → offered h x c .spot ≡ Nowhere
+  pub taken : (h : Head) (y : Logged) (c : List ℕ) (i : BlockNumber) (p : BytePlace)
+      → (offered h y c .verdict ≡ Fresh i p) ⊎ (offered h y c .verdict ≡ Repeat i p) → offered h y c .spot ≡ Nowhere
   -- a place of a byte lies in the chunk as its length field has it, and in the input; that of 30 is the input's end
   pub place-inside : (h : Head) → length (h .uuid) ≡ 16 → (c : List ℕ) (r : Reason) (q : ℕ) → numberOf r ≢ 30 → Gives h c r (spotAt q)
       → (q < chunkLength c) × (q < length c)

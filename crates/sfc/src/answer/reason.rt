@@ -1,4 +1,5 @@
-// The reasons for which a call of the container refuses, one for each of its numbers in document 01's table; 72 is the hash's alone.
+// The reasons for which a call of the container refuses, one for each of its numbers in document 01's table and 54 of
+// document 02; 72 is the hash's alone.
 ghost use mathlib.Core.Path.{_≡_};
 ghost use Rattle.sfc.specs.answer.Numbers.{numberOf, reasonOf};
 
@@ -35,6 +36,7 @@ pub enum Reason {
     ContentHash,
     OutputShort,
     NoDataBlock,
+    Unfinished,
     WriterInput,
     WriterOutput,
     Note,
@@ -85,6 +87,7 @@ fn listed_number(reason: Reason) -> u8
         Reason::ContentHash => 51,
         Reason::OutputShort => 52,
         Reason::NoDataBlock => 53,
+        Reason::Unfinished => 54,
         Reason::WriterInput => 60,
         Reason::WriterOutput => 61,
         Reason::Note => 70,

@@ -7,7 +7,8 @@ ghost use lib.ListN.{length};
 ghost use Rattle.little.specs.Parts.{put};
 ghost use Rattle.blake3.specs.Tree as tree;
 ghost use Rattle.blake3.specs.Running.{withBytes, mostFed};
-ghost use Rattle.sfc.specs.inner.Gather.{Restored, Cut, contentBytes};
+ghost use Rattle.sfc.specs.give.Turns.{joinedBytes};
+ghost use Rattle.sfc.specs.inner.Gather.{Cut, Gatherable};
 
 // The running hash once `part` is fed to it. Feeding is refused only past 2⁴⁰ bytes, and a content is shorter.
 fn with_part(state: Running, part: &[u8]) -> Running
@@ -18,18 +19,17 @@ fn with_part(state: Running, part: &[u8]) -> Running
     fed.state
 }
 
-// The hash of the content.
+// The hash of the data blocks.
 pub(crate) fn content_hash(
     size: usize,
     n: usize,
-    m: usize,
     s: usize,
     marks: &[u8],
     store: &[u8],
     scratch: &[u8],
 ) -> [u8; 32]
-    requires { ⌜ Cut size n s × Restored n m s (now marks) (now store) (now scratch) ⌝ }
-    ensures { λ r. ⌜ r ≡ tree.hash (contentBytes size n m s (now (marks .entry)) (now (store .entry))) ⌝ }
+    requires { ⌜ Cut size n s × Gatherable n s (now marks) (now store) (now scratch) ⌝ }
+    ensures { λ r. ⌜ r ≡ tree.hash (joinedBytes size n s (now (store .entry)) (now (marks .entry)) (now (scratch .entry))) ⌝ }
 {
     let mut state = Running::new();
     let mut row = 0;
@@ -52,19 +52,18 @@ pub(crate) fn content_hash(
     finished.hash
 }
 
-// The content, to the output's front.
+// The data blocks, to the output's front.
 pub(crate) fn copy_content(
     size: usize,
     n: usize,
-    m: usize,
     s: usize,
     marks: &[u8],
     store: &[u8],
     scratch: &[u8],
     out: &mut [u8],
 )
-    requires { ⌜ Cut size n s × Restored n m s (now marks) (now store) (now scratch) × (size ≤ length (now out)) ⌝ }
-    ensures { λ _. ⌜ now (out .exit) ≡ put (now (out .entry)) 0 (contentBytes size n m s (now (marks .entry)) (now (store .entry))) ⌝ }
+    requires { ⌜ Cut size n s × Gatherable n s (now marks) (now store) (now scratch) × (size ≤ length (now out)) ⌝ }
+    ensures { λ _. ⌜ now (out .exit) ≡ put (now (out .entry)) 0 (joinedBytes size n s (now (store .entry)) (now (marks .entry)) (now (scratch .entry))) ⌝ }
 {
     let mut row = 0;
     let mut j = 0;

@@ -1,4 +1,4 @@
-// The missing data blocks, rebuilt into scratch for the hand-out and the block request.
+// The missing data blocks, rebuilt into scratch for the block request.
 use cauchy::Answer;
 ghost use mathlib.Core.Path.{_≡_};
 ghost use mathlib.Core.Bool.{true};

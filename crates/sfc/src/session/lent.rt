@@ -6,7 +6,7 @@ ghost use mathlib.Core.Path.{_≡_};
 ghost use mathlib.Core.Bool.{not, _||_};
 ghost use Prim.Native.Nat.{_*_};
 ghost use lib.Dec.{eqb};
-ghost use Rattle.sfc.specs.session.Lent.{shapeWrong, marksWrong, lentWrong};
+ghost use Rattle.sfc.specs.session.Lent.{shapeWrong, marksWrong, lentWrong, rebuildingWrong, columnsWrong};
 
 // How many elements the field's scratch has, whatever the file.
 pub(crate) const ELEMENTS: usize = 1024;
@@ -54,4 +54,27 @@ pub(crate) fn is_rebuild_wrong(
         return true;
     }
     (scratch != m as usize * s as usize) | (numbers != ELEMENTS)
+}
+
+// Of the scratch that turns rebuild into, and of how many of its word columns are finished.
+pub(crate) fn is_rebuilding_wrong(m: u32, s: u32, scratch: &[u8], finished: u32) -> bool
+    ensures { λ r. ⌜ r ≡ rebuildingWrong m s (now (scratch .entry)) finished ⌝ }
+{
+    (scratch.len() != m as usize * s as usize) | (s / 2 < finished)
+}
+
+// Of all of that together, for a turn and a release.
+pub(crate) fn is_columns_wrong(
+    size: u64,
+    n: u32,
+    m: u32,
+    s: u32,
+    store: &[u8],
+    marks: &[u8],
+    scratch: &[u8],
+    finished: u32,
+) -> bool
+    ensures { λ r. ⌜ r ≡ columnsWrong size n m s (now (store .entry)) (now (marks .entry)) (now (scratch .entry)) finished ⌝ }
+{
+    is_lent_wrong(size, n, m, s, store, marks) | is_rebuilding_wrong(m, s, scratch, finished)
 }

@@ -1,15 +1,18 @@
-// The session: an offer of a chunk, and what it makes of store, marks and tallies.
+// The session: an offer of a chunk, and what it makes of store, marks, tallies and what was rebuilt.
 use crate::answer::places::BlockNumber;
 use crate::answer::places::BytePlace;
+use crate::answer::places::ColumnCount;
 use crate::answer::places::Spot;
 use crate::answer::reason::Checked;
 use crate::answer::reason::Reason;
+use crate::answer::reason::number_of;
 use crate::format::chunk::check_all;
 use crate::format::chunk::index_of;
 use crate::format::header::Head;
 use crate::format::layout::CHUNK_HEADER;
 use crate::format::spot::spot_for;
 use crate::session::lent::is_lent_wrong;
+use crate::session::lent::is_rebuilding_wrong;
 use crate::session::marks::ABSENT;
 use crate::session::marks::BARRED;
 use crate::session::marks::HELD;
@@ -22,7 +25,8 @@ ghost use mathlib.Core.Path.{_≡_};
 ghost use mathlib.Core.Bool.{true};
 ghost use Prim.Native.Nat.{_+_, _*_};
 ghost use lib.ListN.{length};
-ghost use Rattle.sfc.specs.session.Session.{Session, Offered, sessionOf, spotOf, offeredOf, offered};
+ghost use Rattle.sfc.specs.session.Session.{sessionOf, spotOf};
+ghost use Rattle.sfc.specs.session.Offer.{restarts, scratchAfter, finishedAfter, loggedOf, offeredOf, offered};
 ghost use Rattle.sfc.specs.inner.Steps.{Stepped, stepped, Welcome, Judged, judgedOf, judged};
 ghost use Rattle.sfc.specs.inner.Spots.{Fitting};
 
@@ -33,14 +37,15 @@ pub enum Verdict {
     Refused(Reason),
 }
 
-// The verdict, the tallies after it, and where a refused chunk broke.
+// The verdict, the tallies after it, where a refused chunk broke, and how many rebuilt columns still count.
 pub struct OfferAnswer {
     pub verdict: Verdict,
     pub tallies: Tallies,
     pub spot: Spot,
+    pub finished: ColumnCount,
 }
 
-// An answer before the place is found.
+// What the session makes of a chunk, before the place is found.
 struct Judgement {
     verdict: Verdict,
     tallies: Tallies,
@@ -156,22 +161,60 @@ fn spot_of(h: Head, chunk: &[u8], verdict: Verdict) -> Spot
     }
 }
 
-// Any bytes may be offered as a chunk. Store and marks change only with a fresh chunk, and with a copy that differs.
+// The number of a copy that differs, which bars its index.
+const CONFLICTING: u8 = 41;
+
+// Whether other blocks are held than before.
+fn is_restart(verdict: Verdict) -> bool
+    ensures { λ r. ⌜ r ≡ restarts verdict ⌝ }
+{
+    match verdict {
+        Verdict::Fresh(_, _) => true,
+        Verdict::Repeat(_, _) => false,
+        Verdict::Refused(reason) => number_of(reason) == CONFLICTING,
+    }
+}
+
+// Then what was rebuilt is void.
+fn finished_after(verdict: Verdict, scratch: &mut [u8], finished: ColumnCount) -> ColumnCount
+    ensures { λ r. ⌜ (now (scratch .exit) ≡ scratchAfter (now (scratch .entry)) verdict) × (r .0 ≡ finishedAfter (finished .0) verdict) ⌝ }
+{
+    if !is_restart(verdict) {
+        return finished;
+    }
+    little::clear8(scratch);
+    ColumnCount(0)
+}
+
+// Any bytes may be offered as a chunk. Store and marks change only with a fresh chunk, and with a copy that differs; scratch and
+// the finished columns of a rebuild are zeros after these, and else stay.
 pub fn offer(
     h: Head,
     tallies: Tallies,
     store: &mut [u8],
     marks: &mut [u8],
+    scratch: &mut [u8],
+    finished: ColumnCount,
     chunk: &[u8],
 ) -> OfferAnswer
-    ensures { λ r. ⌜ offeredOf (now (store .exit)) (now (marks .exit)) (r .tallies) (r .verdict) (r .spot) ≡ offered h (sessionOf (now (store .entry)) (now (marks .entry)) tallies) (now (chunk .entry)) ⌝ }
+    ensures { λ r. ⌜ offeredOf (loggedOf (now (store .exit)) (now (marks .exit)) (r .tallies) (now (scratch .exit)) (r .finished .0)) (r .verdict) (r .spot) ≡ offered h (loggedOf (now (store .entry)) (now (marks .entry)) tallies (now (scratch .entry)) (finished .0)) (now (chunk .entry)) ⌝ }
 {
+    if is_rebuilding_wrong(h.m, h.s, scratch, finished.0) {
+        return OfferAnswer {
+            verdict: Verdict::Refused(Reason::Lent),
+            tallies,
+            spot: Spot::Nowhere,
+            finished,
+        };
+    }
     let judgement = offer_chunk(h, tallies, store, marks, chunk);
     let verdict = judgement.verdict;
     let counted = judgement.tallies;
+    let spot = spot_of(h, chunk, verdict);
     OfferAnswer {
         verdict,
         tallies: counted,
-        spot: spot_of(h, chunk, verdict),
+        spot,
+        finished: finished_after(verdict, scratch, finished),
     }
 }

@@ -7,7 +7,7 @@ use Rattle.sfc.specs.answer.Numbers.{numberOf}
 use Rattle.sfc.specs.give.HandOut.{Rebuilding, handOut}
 use Rattle.sfc.specs.session.Lent.{Lent}
 use Rattle.sfc.specs.format.Header.{readHeader}
-use Rattle.sfc.specs.declared.give.hand_out.HandedOut.{HandedOut}
+use Rattle.sfc.specs.declared.give.release.HandedOut.{HandedOut}
 use Rattle.sfc.specs.declared.format.header.HeaderRead.{HeaderRead}
 use Rattle.sfc.specs.declared.answer.reason.Reason.{Reason}
 use Rattle.sfc.specs.declared.answer.reason.Checked.{Checked}

@@ -1,6 +1,6 @@
 -- `sfc::session::lent::is_rebuild_wrong` meets its contract. Assumes nothing.
 use mathlib.Core.Path.{sym, _∙_}
-use Rattle.sfc.proofs.give.HandOutLaws.{wrong-first, wrong-rest, scratch-small}
+use Rattle.sfc.proofs.give.RebuildLaws.{wrong-first, wrong-rest, scratch-small}
 use borrow.Author.Needs.{needs}
 use Rattle.sfc.proofs.session.lent.is_rebuild_wrong.Statement.{statement}
 use Rattle.sfc.proofs.session.lent.is_rebuild_wrong.Tie as tie

@@ -1,12 +1,12 @@
--- `sfc::give::hand_out::give_checked` meets its contract: what is hashed is what is copied. Assumes nothing.
+-- `sfc::give::release::give_checked` meets its contract: what is hashed is what is copied. Assumes nothing.
 use borrow.Author.Tests.{not-true, not-false}
 use mathlib.Core.Path.{_∙_, ap, refl, sym}
 use mathlib.Core.List.{List}
 use Prim.Native.Nat.{ℕ}
 use Rattle.little.specs.Runs.{same}
 use borrow.Author.Needs.{needs}
-use Rattle.sfc.proofs.give.hand_out.give_checked.Statement.{statement}
-use Rattle.sfc.proofs.give.hand_out.give_checked.Tie as tie
+use Rattle.sfc.proofs.give.release.give_checked.Statement.{statement}
+use Rattle.sfc.proofs.give.release.give_checked.Tie as tie
 
 returns : tie.Need-returns
 returns c = (sym (not-true _ (c .if1 .taken)) ∙ c .before .is-same .ensures ∙ ap (λ (x : List ℕ). same x (c .before .before .before .before .before .before .before .before .before .args .t2)) (c .before .before .before .before .content-hash .ensures), refl)
