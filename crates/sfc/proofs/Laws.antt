@@ -10,7 +10,7 @@ use Rattle.sfc.specs.format.Header.{lengthField}
 use Rattle.sfc.specs.format.Chunk.{chunkLength, lengthChecks, measureChecks}
 use Rattle.sfc.specs.writing.Writer.{Input, size, blocks, body, payload, chunk, fileOf, headFor}
 use Rattle.sfc.specs.demand.Demand2.{Lawful, AllBelow, received}
-use Rattle.sfc.specs.Laws.{CheckLaws, LentLaws, MeasureLaws, OfferLaws, CountLaws, WrittenLaws}
+use Rattle.sfc.specs.Laws.{CheckLaws, LentLaws, MeasureLaws, OfferLaws, GiveLaws, CountLaws, WrittenLaws}
 use Rattle.sfc.proofs.answer.CheckLaws.{passed, all-passed, good-passes, passes-good, front-good, good-then, refused-then, good-all, refused-all, tells}
 use Rattle.sfc.proofs.answer.RefusalLaws.{leaves, ends}
 use Rattle.sfc.proofs.format.ChunkLaws.{measured, unmeasured, front-there}
@@ -19,6 +19,8 @@ use Rattle.sfc.proofs.session.MarkLaws.{right-shape, right-marks}
 use Rattle.sfc.proofs.session.SessionLaws.{number-in, right-lent, past-two}
 use Rattle.sfc.proofs.session.OfferLaws.{stays-lent}
 use Rattle.sfc.proofs.session.HistoryLaws.{total-all, not-full}
+use Rattle.sfc.proofs.session.KeptLaws.{own-offer, own-offers}
+use Rattle.sfc.proofs.give.TurnTheorems.{whole-turn, turn-long, release-long}
 use Rattle.sfc.proofs.session.RightLaws.{accepted-shape, blank-right}
 use Rattle.sfc.proofs.session.DifferentLaws.{held-different}
 use Rattle.sfc.proofs.note.MissingLaws.{unheld-count}
@@ -61,7 +63,11 @@ pub measureLaws : MeasureLaws
 measureLaws = record { measured = measured; unmeasured = unmeasured; front-there = front-there }
 
 pub offerLaws : OfferLaws
-offerLaws = record { past-two = past-two; stays-lent = stays-lent; total-all = total-all; not-full = not-full }
+offerLaws =
+    record { past-two = past-two; stays-lent = stays-lent; total-all = total-all; not-full = not-full; own-offer = own-offer; own-offers = own-offers }
+
+pub giveLaws : GiveLaws
+giveLaws = record { whole-turn = whole-turn; turn-long = turn-long; release-long = release-long }
 
 pub countLaws : CountLaws
 countLaws = record { unheld-count = unheld-count; held-different = held-different }

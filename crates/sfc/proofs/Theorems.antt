@@ -10,6 +10,7 @@ pub use Rattle.sfc.proofs.session.OrderTheorems.{order-theorems}
 pub use Rattle.sfc.proofs.session.SpotTheorems.{place-table, first-wrongs}
 pub use Rattle.sfc.proofs.session.EndLaws.{end-state}
 pub use Rattle.sfc.proofs.session.CountLaws.{tallies-count}
+pub use Rattle.sfc.proofs.give.TurnTheorems.{in-turns}
 pub use Rattle.sfc.proofs.note.MissingExact.{missing-exact}
 pub use Rattle.sfc.proofs.note.RangesExact.{ranges-exact}
 pub use Rattle.sfc.proofs.note.RangesFew.{ranges-few}

@@ -4,6 +4,8 @@ pub mod GatherLaws
 pub mod RebuildLaws
 pub mod TurnLaws
 pub mod ReleaseLaws
+pub mod ColumnLaws
+pub mod TurnTheorems
 pub mod BlockLaws
 pub mod GivenLaws
 pub mod UnseenLaws

@@ -11,8 +11,8 @@ use lib.ListN.{length, getD}
 use Rattle.little.specs.Said.{Said, refused, says}
 use Rattle.little.proofs.Laws.{saidLaws, testLaws}
 use Rattle.sfc.specs.answer.Numbers.{Check, checked, numberOf, reasonOf}
-use Rattle.sfc.specs.answer.Places.{number, place}
-use Rattle.sfc.specs.answer.Said.{byNumber, tabled, checkedSaid, headerSaid, noteSaid, fieldSaid, chunkSaid, chunkSpot, spotSaid, measuredSaid, verdictSaid, countedSaid, handedOutSaid, prefixSaid, blockSaid, listedSaid, writtenSaid}
+use Rattle.sfc.specs.answer.Places.{number, place, columns}
+use Rattle.sfc.specs.answer.Said.{byNumber, tabled, checkedSaid, headerSaid, noteSaid, fieldSaid, chunkSaid, chunkSpot, spotSaid, measuredSaid, verdictSaid, countedSaid, turnedSaid, handedOutSaid, prefixSaid, blockSaid, listedSaid, writtenSaid}
 use Rattle.sfc.specs.format.Header.{headerChecks, regionOf, headOf, refusedHeader, acceptedHeader, readHeader}
 use Rattle.sfc.specs.format.Extension.{fieldsOf}
 use Rattle.sfc.specs.format.Lookup.{foundAmong, extensionOf, extensionPlace, findField}
@@ -20,8 +20,9 @@ use Rattle.sfc.specs.format.Chunk.{indexOf, chunkLength, measureChecks, 
 use Rattle.sfc.specs.format.Spot.{spotFor, refusedChunk, checkChunk}
 use Rattle.sfc.specs.session.Marks.{heldCount, barredCount}
 use Rattle.sfc.specs.session.Lent.{Lent, countChecks, countMarks}
-use Rattle.sfc.specs.session.Session.{Session, mark, offerChecks, welcomed, verdictOf, spotOf, offered}
-use Rattle.sfc.specs.give.HandOut.{handOutChecks, handOut}
+use Rattle.sfc.specs.session.Session.{mark, welcomed, verdictOf, spotOf}
+use Rattle.sfc.specs.session.Offer.{Logged, allChecks, offerVerdict, offered}
+use Rattle.sfc.specs.give.Turns.{Turning, turningOf, turnChecks, turnCount, turnDone, turn, releaseChecks, release}
 use Rattle.sfc.specs.give.Block.{blockChecks, blockRequest}
 use Rattle.sfc.specs.give.Prefix.{prefixBlocks, prefixOf, prefixChecks, prefixGiven}
 use Rattle.sfc.specs.note.Missing.{missing, missingChecks, listMissing}
@@ -39,6 +40,7 @@ use Rattle.sfc.specs.declared.format.chunk.ChunkChecked.{ChunkChecked}
 use Rattle.sfc.specs.declared.format.chunk.ChunkMeasured.{ChunkMeasured}
 use Rattle.sfc.specs.declared.session.offer.Verdict.{Verdict}
 use Rattle.sfc.specs.declared.session.marks.MarksCounted.{MarksCounted}
+use Rattle.sfc.specs.declared.give.turn.Turned.{Turned}
 use Rattle.sfc.specs.declared.give.release.HandedOut.{HandedOut}
 use Rattle.sfc.specs.declared.give.prefix.PrefixGiven.{PrefixGiven}
 use Rattle.sfc.specs.declared.give.block.BlockGiven.{BlockGiven}
@@ -85,12 +87,12 @@ measure : (h : Head) (b : List ℕ) → measuredSaid (measureChunk h b) ≡ byNu
 unfolding measureChunk
 measure h b = by-number measuredSaid ChunkMeasured.Refused (ChunkMeasured.Length (chunkLength b)) (λ r. refl) (measureChecks h b) refl
 
-offer : (h : Head) (x : Session) (c : List ℕ) → verdictSaid (offered h x c .verdict)
-    ≡ byNumber (offerChecks h x c) (says (cond (eqb (mark x (indexOf c)) 0) "fresh" "repeat") (indexOf c ∷ indexOf c * h .s ∷ []))
-unfolding offered verdictOf
-offer h x c =
-    by-number verdictSaid Verdict.Refused (welcomed h x c) (λ r. refl) (offerChecks h x c) refl
-    ∙ ap (byNumber (offerChecks h x c)) (welcome (eqb (mark x (indexOf c)) 0))
+offer : (h : Head) (y : Logged) (c : List ℕ) → verdictSaid (offered h y c .verdict)
+    ≡ byNumber (allChecks h y c) (says (cond (eqb (mark (y .session) (indexOf c)) 0) "fresh" "repeat") (indexOf c ∷ indexOf c * h .s ∷ []))
+unfolding offered offerVerdict verdictOf
+offer h y c =
+    by-number verdictSaid Verdict.Refused (welcomed h (y .session) c) (λ r. refl) (allChecks h y c) refl
+    ∙ ap (byNumber (allChecks h y c)) (welcome (eqb (mark (y .session) (indexOf c)) 0))
   where
     welcome : (t : Bool) → verdictSaid (cond t (Verdict.Fresh (number (indexOf c)) (place (indexOf c * h .s))) (Verdict.Repeat (number (indexOf c)) (place (indexOf c * h .s))))
         ≡ says (cond t "fresh" "repeat") (indexOf c ∷ indexOf c * h .s ∷ [])
@@ -101,10 +103,18 @@ count : (h : Head) (marks : List ℕ) → countedSaid (countMarks h marks) ≡ b
 unfolding countMarks
 count h marks = by-number countedSaid MarksCounted.Refused (MarksCounted.Counts (heldCount marks) (barredCount marks)) (λ r. refl) (countChecks h marks) refl
 
-hand-out : (h : Head) (store marks : List ℕ) (l : Lent) → handedOutSaid (handOut h store marks l .answer)
-    ≡ byNumber (handOutChecks h store marks l) (says "complete" (h .size ∷ []))
-unfolding handOut
-hand-out h store marks l = by-number handedOutSaid HandedOut.Refused (HandedOut.Complete (place (h .size))) (λ r. refl) (handOutChecks h store marks l) refl
+turned : (h : Head) (store marks scratch numbers : List ℕ) (f b : ℕ) → turnedSaid (turn h store marks scratch numbers f b .answer)
+    ≡ byNumber (turnChecks h store marks scratch numbers f) (says "did" (turnCount h marks f b ∷ []))
+unfolding turn
+turned h store marks scratch numbers f b =
+    by-number (λ (z : Turning). turnedSaid (z .answer)) (λ (r : Reason). turningOf (Turned.Refused r) f scratch numbers)
+    (turnDone h store marks scratch f (turnCount h marks f b)) (λ r. refl) (turnChecks h store marks scratch numbers f) refl
+
+released : (h : Head) (store marks scratch : List ℕ) (f : ℕ) (out : List ℕ) → handedOutSaid (release h store marks scratch f out .answer)
+    ≡ byNumber (releaseChecks h store marks scratch f out) (says "complete" (h .size ∷ []))
+unfolding release
+released h store marks scratch f out =
+    by-number handedOutSaid HandedOut.Refused (HandedOut.Complete (place (h .size))) (λ r. refl) (releaseChecks h store marks scratch f out) refl
 
 block : (h : Head) (store marks : List ℕ) (j : ℕ) (l : Lent) → blockSaid (blockRequest h store marks j l .answer)
     ≡ byNumber (blockChecks h store marks j l) (says "unverified" (j ∷ j * h .s ∷ []))
@@ -136,9 +146,9 @@ reading : (b out : List ℕ) → noteSaid (readNote b out .answer) ≡ byNumber 
 unfolding readNote
 reading b out = by-number noteSaid refusedNote (goodNote b) (λ r. refl) (readChecks b out) refl
 
-offer-place : (h : Head) (x : Session) (c : List ℕ) → offered h x c .spot ≡ spotSaid (spotFor h c) (verdictSaid (offered h x c .verdict))
+offer-place : (h : Head) (y : Logged) (c : List ℕ) → offered h y c .spot ≡ spotSaid (spotFor h c) (verdictSaid (offered h y c .verdict))
 unfolding offered spotOf
-offer-place h x c = go (verdictOf h x c)
+offer-place h y c = go (offerVerdict h y c)
   where
     go : (v : Verdict) → spotOf h c v ≡ spotSaid (spotFor h c) (verdictSaid v)
     go (Verdict.Fresh i p) = refl
@@ -159,7 +169,8 @@ answers = record {
   offer = offer;
   offer-place = offer-place;
   count = count;
-  hand-out = hand-out;
+  turn = turned;
+  release = released;
   block = block;
   prefix = prefix;
   missing-list = missing-list;
@@ -215,6 +226,14 @@ countedBack (says word vs) = MarksCounted.Counts (one vs) (two vs)
 counted-back : (v : MarksCounted) → countedBack (countedSaid v) ≡ v
 counted-back (MarksCounted.Counts held barred) = refl
 counted-back (MarksCounted.Refused r) = ap MarksCounted.Refused (reason-back r)
+
+abbrev turnedBack : Said → Turned
+turnedBack (refused k) = Turned.Refused (reasonOf k)
+turnedBack (says word vs) = Turned.Did (columns (one vs))
+
+turned-back : (v : Turned) → turnedBack (turnedSaid v) ≡ v
+turned-back (Turned.Did k) = refl
+turned-back (Turned.Refused r) = ap Turned.Refused (reason-back r)
 
 abbrev handedOutBack : Said → HandedOut
 handedOutBack (refused k) = HandedOut.Refused (reasonOf k)
@@ -286,6 +305,7 @@ said-apart = record {
   measured = saidLaws .told-apart measuredSaid measuredBack measured-back;
   verdict = saidLaws .told-apart verdictSaid verdictBack verdict-back;
   counted = saidLaws .told-apart countedSaid countedBack counted-back;
+  turned = saidLaws .told-apart turnedSaid turnedBack turned-back;
   handed-out = saidLaws .told-apart handedOutSaid handedOutBack handed-out-back;
   prefix = saidLaws .told-apart prefixSaid prefixBack prefix-back;
   block = saidLaws .told-apart blockSaid blockBack block-back;

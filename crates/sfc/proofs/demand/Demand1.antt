@@ -1,16 +1,18 @@
 -- Demand 1 (specs/demand/Demand1.antt), call by call. Assumes nothing.
 use Prim.Native.Nat.{ℕ, _+_, _*_, _≤_, _<_}
-use mathlib.Core.Path.{_≡_, refl, sym, ap, ap₂, _∙_}
+use mathlib.Core.Path.{_≡_, refl, sym, ap, ap₂, _∙_, subst}
 use mathlib.Core.Bool.{Bool, true, false, cond, not, _&&_, _||_, false≢true}
-use mathlib.Core.List.{List, [], _∷_}
+use mathlib.Core.Logic.{_≢_}
+use mathlib.Core.List.{List, [], _∷_, _++_}
 use native.Mathlib.Omega.{arith}
-use borrow.Author.Tests.{eqb-true, ltb-false, leb-false, le-ltb, lt-leb, not-false}
+use borrow.Author.Tests.{eqb-true, ne-eqb, ltb-false, leb-false, le-ltb, lt-leb, not-false}
 use lib.Dec.{eqb, ltb, lit≤}
 use lib.ListN.{length, getD}
 use Rattle.little.specs.Parts.{put}
 use Rattle.little.proofs.Laws.{testLaws}
-use Rattle.little.specs.Runs.{any, zeros, among}
-use Rattle.sfc.specs.answer.Numbers.{Check, checked, verdict, passes, numberOf}
+use Rattle.little.specs.Runs.{any, zeros, same, among}
+use Rattle.blake3.specs.Tree.{hash}
+use Rattle.sfc.specs.answer.Numbers.{Check, checked, verdict, passes, numberOf, reasonOf}
 use Rattle.sfc.specs.format.Header.{lengthField, headerChecks, regionOf, headOf, refusedHeader, acceptedHeader, readHeader}
 use Rattle.sfc.specs.format.Extension.{Field, fieldsOf}
 use Rattle.sfc.specs.format.Chunk.{indexOf, aloneChecks, chunkLength, measureChecks, measureChunk}
@@ -19,9 +21,13 @@ use Rattle.sfc.specs.format.Lookup.{foundAmong, extensionOf, extensionPl
 use Rattle.sfc.specs.answer.Places.{number, place}
 use Rattle.sfc.specs.session.Marks.{isHeld, heldCount, barredCount}
 use Rattle.sfc.specs.session.Tallies.{counted, countedRefusal}
-use Rattle.sfc.specs.session.Session.{Session, offerChecks, verdictOf, withBlock, settled, after, spotOf, offered}
-use Rattle.sfc.specs.session.Lent.{lentWrong, Lent, rebuildWrong, countChecks, countMarks}
-use Rattle.sfc.specs.give.HandOut.{lentAfter, contentOf, handOutLent, contentChecks, handOutChecks, handOut}
+use Rattle.sfc.specs.session.Session.{Session, sessionOf, withBlock, settled, spotOf}
+use Rattle.sfc.specs.session.Offer.{Logged, logged, allChecks, offerVerdict, restarts, loggedAfter, offered}
+use Rattle.sfc.specs.session.SessionTheorems.{SameKept}
+use Rattle.sfc.specs.session.Lent.{lentWrong, Lent, rebuildWrong, columnsWrong, countChecks, countMarks}
+use Rattle.sfc.specs.give.HandOut.{lentAfter}
+use Rattle.sfc.specs.give.Turns.{columnsLeft, turnCount, turnDone, Turning, turningOf, turnChecks, turn, joinedOf, joinedChecks, Releasing, releasingOf, releaseLent, releaseChecks, release}
+use Rattle.sfc.specs.give.TurnTheorems.{AsBefore}
 use Rattle.sfc.specs.give.Block.{blockGiven, blockLent, blockChecks, blockRequest}
 use Rattle.sfc.specs.give.Prefix.{prefixBlocks, prefixOf, prefixChecks, prefixGiven}
 use Rattle.sfc.specs.note.Missing.{missing, missingChecks, listMissing}
@@ -41,6 +47,9 @@ use Rattle.sfc.specs.declared.format.chunk.ChunkChecked.the-variants.{Re
 use Rattle.sfc.specs.declared.format.lookup.FieldFound.{FieldFound}
 use Rattle.sfc.specs.declared.format.lookup.FieldFound.the-variants.{At, Nothing, Refused as NotShown}
 use Rattle.sfc.specs.declared.session.offer.Verdict.the-variants.{Refused as NotTaken}
+use Rattle.sfc.specs.declared.session.tallies.Tallies.{Tallies}
+use Rattle.sfc.specs.declared.give.turn.Turned.{Turned}
+use Rattle.sfc.specs.declared.give.turn.Turned.the-variants.{Did, Refused as NoTurn}
 use Rattle.sfc.specs.declared.give.release.HandedOut.{HandedOut}
 use Rattle.sfc.specs.declared.give.release.HandedOut.the-variants.{Complete, Refused as NotHandedOut}
 use Rattle.sfc.specs.declared.give.prefix.PrefixGiven.{PrefixGiven}
@@ -52,14 +61,19 @@ use Rattle.sfc.specs.declared.note.missing.Listed.the-variants.{Count, R
 use Rattle.sfc.specs.declared.note.resend.NoteRead.{NoteRead}
 use Rattle.sfc.specs.declared.answer.written.Written.{Written}
 use Rattle.sfc.specs.declared.answer.written.Written.the-variants.{Bytes as Took, Refused as NotWritten}
-use Rattle.sfc.proofs.answer.CheckLaws.{passed, good-all, refused-all, tells}
-use Rattle.sfc.proofs.session.SessionLaws.{right-lent, after-by, number-in}
-use Rattle.sfc.proofs.session.BreakLaws.{check-refused, offer-refused, offer-spot}
-use Rattle.sfc.proofs.session.HistoryLaws.{after-tallies}
+use Rattle.sfc.proofs.answer.CheckLaws.{passed, good-all, good-passes, front-good, refused-all, tells}
+use Rattle.sfc.proofs.session.SessionLaws.{right-lent, number-in}
+use Rattle.sfc.proofs.session.BreakLaws.{check-refused, kept-refused, offer-spot}
+use Rattle.sfc.proofs.session.KeptLaws.{by-verdict, own-offer, restart}
+use Rattle.sfc.proofs.session.HistoryLaws.{settled-tallies}
 use Rattle.sfc.proofs.session.OfferLaws.{one-offer}
 use Rattle.sfc.proofs.note.NoteLaws.{length-bounds}
 use Rattle.sfc.proofs.session.HeldLaws.{length-decode, length-content}
-use Rattle.sfc.proofs.give.GivenLaws.{lent-right, lent-output, complete-has-hash}
+use Rattle.sfc.proofs.give.TurnLaws.{right-columns}
+use Rattle.sfc.proofs.give.ReleaseLaws.{length-joined-bytes}
+use Rattle.sfc.proofs.give.ColumnLaws.{turn-not, kept-on}
+use Rattle.sfc.proofs.give.TurnTheorems.{released, good-release}
+use Rattle.sfc.proofs.give.GivenLaws.{lent-right, lent-output}
 use Rattle.sfc.proofs.format.FieldInside.{field-in-region}
 use Rattle.sfc.proofs.answer.RefusalLaws.{leaves, ends, early-told}
 use Rattle.sfc.proofs.format.ChunkLaws.{measuredSeen}
@@ -167,38 +181,116 @@ module _ (b : List ℕ) (tag : ℕ) where
 
 -- ---- an offer
 
-module _ (h : Head) (x : Session) (c : List ℕ) (r : Reason) (e : verdictOf h x c ≡ NotTaken r) where
-  offer-place : offered h x c .spot ≡ spotFor h c (numberOf r)
+module _ (h : Head) (y : Logged) (c : List ℕ) (r : Reason) (e : offerVerdict h y c ≡ NotTaken r) where
+  offer-place : offered h y c .spot ≡ spotFor h c (numberOf r)
   unfolding spotOf
-  offer-place = offer-spot h x c (NotTaken r) e
+  offer-place = offer-spot h y c (NotTaken r) e
 
   offer-numbers : OneOf r (71 ∷ 43 ∷ 30 ∷ 31 ∷ 32 ∷ 33 ∷ 34 ∷ 35 ∷ 36 ∷ 37 ∷ 38 ∷ 39 ∷ 40 ∷ 41 ∷ 42 ∷ [])
   unfolding any
   offer-numbers =
-      number-in (λ (k : ℕ). among k (71 ∷ 43 ∷ 30 ∷ 31 ∷ 32 ∷ 33 ∷ 34 ∷ 35 ∷ 36 ∷ 37 ∷ 38 ∷ 39 ∷ 40 ∷ 41 ∷ 42 ∷ []) ≡ true) (offerChecks h x c) r
-      (refl, (refl, (refl, (refl, (refl, (refl, (refl, (refl, (refl, (refl, (refl, (refl, (refl, (refl, (refl, (refl, tt))))))))))))))))
-      (offer-refused h x c r e)
+      number-in (λ (k : ℕ). among k (71 ∷ 43 ∷ 30 ∷ 31 ∷ 32 ∷ 33 ∷ 34 ∷ 35 ∷ 36 ∷ 37 ∷ 38 ∷ 39 ∷ 40 ∷ 41 ∷ 42 ∷ []) ≡ true) (allChecks h y c) r
+      (refl, (refl, (refl, (refl, (refl, (refl, (refl, (refl, (refl, (refl, (refl, (refl, (refl, (refl, (refl, (refl, (refl, tt)))))))))))))))))
+      (kept-refused h y c r e)
 
-  -- the session after a refusal by a number
-  refusedBy : ℕ → Session
+  -- all that is kept after a refusal by a number
+  refusedBy : ℕ → Logged
   refusedBy k =
-      let y : Session = cond (eqb k 41) (withBlock h x (indexOf c) (zeros (h .s)) 2) x in
-      record { store = y .store; marks = y .marks; tallies = countedRefusal (y .tallies) k }
+      let x : Session = cond (eqb k 41) (withBlock h (y .session) (indexOf c) (zeros (h .s)) 2) (y .session) in
+      logged (sessionOf (x .store) (x .marks) (countedRefusal (x .tallies) k)) (cond (eqb k 41) (zeros (length (y .scratch))) (y .scratch))
+      (cond (eqb k 41) 0 (y .finished))
 
-  offer-uncounted : OneOf r (71 ∷ 43 ∷ []) → after h x c ≡ x
-  unfolding any settled counted countedRefusal refusedBy
-  offer-uncounted o = after-by h x c (NotTaken r) e ∙ go (eqb (numberOf r) 71) (eqb (numberOf r) 43) refl refl o
+  offer-uncounted : OneOf r (71 ∷ 43 ∷ []) → loggedAfter h y c ≡ y
+  unfolding any settled counted countedRefusal restarts refusedBy
+  offer-uncounted o = by-verdict h y c (NotTaken r) e ∙ go (eqb (numberOf r) 71) (eqb (numberOf r) 43) refl refl o
     where
-      go : (a b : Bool) → eqb (numberOf r) 71 ≡ a → eqb (numberOf r) 43 ≡ b → (a || (b || false)) ≡ true → refusedBy (numberOf r) ≡ x
+      go : (a b : Bool) → eqb (numberOf r) 71 ≡ a → eqb (numberOf r) 43 ≡ b → (a || (b || false)) ≡ true → refusedBy (numberOf r) ≡ y
       go true b f g q = ap refusedBy (eqb-true (numberOf r) 71 f)
       go false true f g q = ap refusedBy (eqb-true (numberOf r) 43 g)
       go false false f g q = absurd (false≢true q)
 
-  offer-counted : after h x c .tallies ≡ countedRefusal (x .tallies) (numberOf r)
+  offer-counted : loggedAfter h y c .session .tallies ≡ countedRefusal (y .session .tallies) (numberOf r)
   unfolding counted
-  offer-counted = after-tallies h x c ∙ ap (counted (x .tallies)) e
+  offer-counted =
+      ap (λ (z : Logged). z .session .tallies) (by-verdict h y c (NotTaken r) e)
+      ∙ ap (λ (t : Tallies). countedRefusal t (numberOf r)) (settled-tallies h (y .session) c (NotTaken r))
 
--- ---- the calls that rebuild
+  offer-kept : numberOf r ≢ 41 → SameKept (y .session) (loggedAfter h y c .session) × AsBefore y (loggedAfter h y c)
+  unfolding restarts
+  offer-kept d =
+      let s = kept-on h y c (ap restarts e ∙ ne-eqb (numberOf r) 41 d) in
+      (record { store = s .0; marks = s .1 }, restart .refused h y c r e d)
+
+-- ---- a turn and a release
+
+abbrev turnSeen : Turned → Checked
+turnSeen (Did k) = Good
+turnSeen (NoTurn r) = Refused r
+
+turn-refused : (h : Head) (store marks scratch numbers : List ℕ) (f b : ℕ) (r : Reason) → turn h store marks scratch numbers f b .answer ≡ NoTurn r
+    → OneOf r (71 ∷ 50 ∷ []) × _≡_ {A = Turning} (turn h store marks scratch numbers f b) (turningOf (NoTurn r) f scratch numbers)
+unfolding turn any
+turn-refused h store marks scratch numbers f b r e =
+    let t = tells (λ (z : Turning). turnSeen (z .answer)) (λ (q : Reason). turningOf (NoTurn q) f scratch numbers)
+    (turnDone h store marks scratch f (turnCount h marks f b)) (λ q. refl) refl (turnChecks h store marks scratch numbers f) (Refused r) (ap turnSeen e) in
+    (number-in (λ (k : ℕ). among k (71 ∷ 50 ∷ []) ≡ true) (turnChecks h store marks scratch numbers f) r (refl, (refl, tt)) t, turn-not h store marks scratch numbers f b r t)
+
+handed-one : (a b : Reason) → _≡_ {A = HandedOut} (NotHandedOut a) (NotHandedOut b) → a ≡ b
+handed-one a b e = cc
+
+no-answer : {A : Type 0} (r : Reason) (p : BytePlace) → _≡_ {A = HandedOut} (NotHandedOut r) (Complete p) → A
+no-answer r p e = absurd (let z : _≡_ {A = ℕ} 0 1 = cc in omega arith)
+
+module _ (h : Head) (store marks scratch : List ℕ) (f : ℕ) (out : List ℕ) where
+  -- a release by what its five tests say
+  abbrev front : Bool → Bool → Bool → Bool → List Check
+  front a b c d = (a, 71) ∷ (b, 52) ∷ (c, 50) ∷ (d, 54) ∷ []
+
+  abbrev releaseBy : Bool → Bool → Bool → Bool → Bool → Releasing
+  releaseBy a b c d e = record {
+    answer = checked (front a b c d ++ ((e, 51) ∷ [])) NotHandedOut (Complete (place (h .size)));
+    finished = cond (passes (front a b c d)) 0 f;
+    scratch = cond (passes (front a b c d)) (zeros (length scratch)) scratch;
+    output = checked (front a b c d ++ ((e, 51) ∷ [])) (λ (r : Reason). out) (put out 0 (joinedOf h store marks scratch));
+  }
+
+  abbrev Left : Releasing → Reason → Type 0
+  Left z r = OneOf r (71 ∷ 52 ∷ 50 ∷ 54 ∷ 51 ∷ [])
+      × _≡_ {A = Releasing} z (releasingOf (NotHandedOut r) (cond (eqb (numberOf r) 51) 0 f) (cond (eqb (numberOf r) 51) (zeros (length scratch)) scratch) out)
+
+  left-by : (a b c d e : Bool) (r : Reason) → releaseBy a b c d e .answer ≡ NotHandedOut r → Left (releaseBy a b c d e) r
+  unfolding any
+  left-by true b c d e r q = subst (Left (releaseBy true b c d e)) (handed-one (reasonOf 71) r q) (refl, refl)
+  left-by false true c d e r q = subst (Left (releaseBy false true c d e)) (handed-one (reasonOf 52) r q) (refl, refl)
+  left-by false false true d e r q = subst (Left (releaseBy false false true d e)) (handed-one (reasonOf 50) r q) (refl, refl)
+  left-by false false false true e r q = subst (Left (releaseBy false false false true e)) (handed-one (reasonOf 54) r q) (refl, refl)
+  left-by false false false false true r q = subst (Left (releaseBy false false false false true)) (handed-one (reasonOf 51) r q) (refl, refl)
+  left-by false false false false false r q = no-answer r (place (h .size)) (sym q)
+
+  release-refused : (r : Reason) → release h store marks scratch f out .answer ≡ NotHandedOut r → Left (release h store marks scratch f out) r
+  unfolding release
+  release-refused r e =
+      left-by (columnsWrong (h .size) (h .n) (h .m) (h .s) store marks scratch f) (ltb (length out) (h .size)) (ltb (heldCount marks) (h .n))
+      (ltb 0 (columnsLeft (h .n) (h .s) marks f)) (not (same (hash (joinedOf h store marks scratch)) (h .hash))) r e
+
+  release-ends : (p : ℕ) → release h store marks scratch f out .answer ≡ Complete (place p)
+      → Ends p out (release h store marks scratch f out .output)
+      × (release h store marks scratch f out .scratch ≡ zeros (length scratch)) × (release h store marks scratch f out .finished ≡ 0)
+  unfolding release
+  release-ends p e =
+      let t = released h store marks scratch f out (place p) e in
+      let k : h .size ≡ p = ap (λ (q : BytePlace). q .0) (t .1) in
+      let r = right-columns (h .size) (h .n) (h .m) (h .s) store marks scratch f (t .0 .right) in
+      let g = good-release h store marks scratch f out (t .0) in
+      let n = length-joined-bytes (h .size) (h .n) (h .m) (h .s) store marks scratch f r (t .0 .enough) in
+      let w : passes (releaseLent h store marks scratch f out) ≡ true
+      = good-passes (releaseLent h store marks scratch f out) (front-good (releaseLent h store marks scratch f out) (joinedChecks h store marks scratch) g) in (
+        ends (releaseChecks h store marks scratch f out) out (joinedOf h store marks scratch) p g (n ∙ k) (omega (arith, t .0 .room, k)),
+        ap (λ (b : Bool). cond b (zeros (length scratch)) scratch) w,
+        ap (λ (b : Bool). cond b 0 f) w,
+      )
+
+-- ---- the block request
 
 -- the lengths that 71 lets through
 lengths : (h : Head) (store marks : List ℕ) (l : Lent) → rebuildWrong h store marks l ≡ false → (length (l .scratch) ≡ h .m * h .s) × (length (l .numbers) ≡ 1024)
@@ -216,39 +308,6 @@ wiped : (past : Bool) (l : Lent) (out : List ℕ) (a b : ℕ) → past ≡ true 
     → (lentAfter past l out .scratch ≡ zeros a) × (lentAfter past l out .numbers ≡ zeros b)
 unfolding lentAfter
 wiped past l out a b e n = rw e (ap (λ (k : ℕ). zeros k) (n .0), ap (λ (k : ℕ). zeros k) (n .1))
-
-module _ (h : Head) (store marks : List ℕ) (l : Lent) where
-  hand-out-told : (v : Checked) → handOutSeen (handOut h store marks l .answer) ≡ v → verdict (handOutChecks h store marks l) ≡ v
-  unfolding handOut
-  hand-out-told v e = tells handOutSeen NotHandedOut (Complete (place (h .size))) (λ q. refl) refl (handOutChecks h store marks l) v e
-
-  hand-out-refused : (r : Reason) → handOut h store marks l .answer ≡ NotHandedOut r
-      → OneOf r (71 ∷ 52 ∷ 50 ∷ 51 ∷ []) × (handOut h store marks l .lent ≡ lentLeft r (71 ∷ 52 ∷ []) l)
-  unfolding handOut any
-  hand-out-refused r e =
-      let t = hand-out-told (Refused r) (ap handOutSeen e) in
-      let g = leaves (handOutChecks h store marks l) r (71 ∷ 52 ∷ 50 ∷ 51 ∷ []) (l .output) (put (l .output) 0 (contentOf h store marks)) (refl, (refl, (refl, (refl, tt)))) t in (
-        g .number,
-        ap₂ (λ (b : Bool) (out : List ℕ). lentAfter b l out)
-            (early-told (handOutLent h store marks l) (contentChecks h store marks) r (71 ∷ 52 ∷ []) (refl, (refl, tt)) (refl, (refl, tt)) t)
-            (g .output),
-      )
-
-  hand-out-ends : (p : ℕ) → handOut h store marks l .answer ≡ Complete (place p) → Ends p (l .output) (handOut h store marks l .lent .output)
-  unfolding handOut
-  hand-out-ends p e =
-      let cs : List Check = handOutChecks h store marks l in
-      let t = hand-out-told Good (ap handOutSeen e) in
-      let c = complete-has-hash h store marks l (place p) e in
-      let k : p ≡ h .size = ap (λ (q : BytePlace). q .0) (c .0) in
-      let n : length (contentOf h store marks) ≡ p = length-content h store marks (lent-right h store marks l (passed cs t .0)) ∙ sym k in
-      rw (lent-output (passes (handOutLent h store marks l)) l (checked cs (λ (r : Reason). l .output) (put (l .output) 0 (contentOf h store marks))))
-      (ends cs (l .output) (contentOf h store marks) p t n (omega (arith, c .1)))
-
-  hand-out-scratch : rebuildWrong h store marks l ≡ false → h .size ≤ length (l .output)
-      → (handOut h store marks l .lent .scratch ≡ zeros (h .m * h .s)) × (handOut h store marks l .lent .numbers ≡ zeros 1024)
-  unfolding handOut
-  hand-out-scratch e o = wiped (passes (handOutLent h store marks l)) l _ (h .m * h .s) 1024 (rw (e, le-ltb (length (l .output)) (h .size) o)) (lengths h store marks l e)
 
 module _ (h : Head) (store marks : List ℕ) (j : ℕ) (l : Lent) where
   block-told : (v : Checked) → blockSeen (blockRequest h store marks j l .answer) ≡ v → verdict (blockChecks h store marks j l) ≡ v
@@ -416,10 +475,13 @@ demand1 = record {
   offer-place = offer-place;
   offer-uncounted = offer-uncounted;
   offer-counted = offer-counted;
+  offer-kept = offer-kept;
+  offer-inside = own-offer;
   one-offer = one-offer;
-  hand-out-refused = hand-out-refused;
-  hand-out-ends = hand-out-ends;
-  hand-out-scratch = hand-out-scratch;
+  restart = restart;
+  turn-refused = turn-refused;
+  release-refused = release-refused;
+  release-ends = release-ends;
   block-refused = block-refused;
   block-ends = block-ends;
   block-scratch = block-scratch;

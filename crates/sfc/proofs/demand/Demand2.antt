@@ -33,7 +33,7 @@ use Rattle.sfc.proofs.writing.FileLaws.{length-written, length-chunks, 
 use Rattle.sfc.proofs.writing.RegionBack.{length-region}
 use Rattle.sfc.proofs.writing.InputLaws.{Typed, RightInput, right-input, tests-are}
 use Rattle.sfc.proofs.writing.HeaderBack.{preamble-long, header-back}
-use Rattle.sfc.proofs.demand.RoundTrip.{chunk-of, offers-answered, round-trip}
+use Rattle.sfc.proofs.demand.RoundTrip.{round-trip-between, chunk-of, offers-answered, round-trip}
 
 -- ---- inputs that 60 lets through
 
@@ -115,6 +115,7 @@ demand2 = record {
   chunk-in-file = chunk-in-file;
   chunk-read-back = chunk-read-back;
   offers-answered = λ w l is a few. offers-answered w (l .uuid-long) (right w l .shape) (l .content) is a few;
-  round-trip = λ w l is a few enough lent room. round-trip w (l .uuid-long) (right w l .shape) (l .content) is a few lent room enough;
+  round-trip = λ w l is a few enough. round-trip w (l .uuid-long) (right w l .shape) (l .content) is a few enough;
+  round-trip-between = λ w l is a few enough. round-trip-between w (l .uuid-long) (right w l .shape) (l .content) is a few enough;
   complete-has-hash = complete-has-hash;
 }

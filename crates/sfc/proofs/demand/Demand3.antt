@@ -32,7 +32,7 @@ use Rattle.sfc.proofs.session.SessionLaws.{right-lent}
 use Rattle.sfc.proofs.note.MissingExact.{missing-exact}
 use Rattle.sfc.proofs.session.HeldLaws.{right-code, block-decoded}
 use Rattle.sfc.proofs.give.GivenLaws.{gives-enough, gives-held, withholds, hands-out, complete-has-hash}
-use Rattle.sfc.proofs.give.UnseenLaws.{block-unseen, content-unseen, prefix-unseen}
+use Rattle.sfc.proofs.give.UnseenLaws.{block-unseen, turn-unseen, release-unseen, prefix-unseen}
 use Rattle.sfc.proofs.session.RightLaws.{accepted-right}
 
 module _ (h : Head) (x : Session) (r : Right h x) where
@@ -55,8 +55,11 @@ module _ (h : Head) (x : Session) (r : Right h x) where
       block-known : (j : ℕ) → j < h .n → Gives h x j (block (h .s) d j)
       block-known j q = subst (Gives h x j) (sym (known j q)) (gives-enough h x j q enough)
 
+      pub fitting-decoded : decoded (h .n) (h .m) (h .s) (x .marks) (x .store) ≡ d
+      fitting-decoded = sym (missingLaws .as-decoded (h .n) (h .m) (h .s) (x .marks) (x .store) d (f .blocks .0) known)
+
       content-known : HandsOut h x d
-      content-known = hands-out h x d enough (sym (missingLaws .as-decoded (h .n) (h .m) (h .s) (x .marks) (x .store) d (f .blocks .0) known))
+      content-known = hands-out h x d (r .lent) enough fitting-decoded
 
     used-given : (d : List ℕ) × Used h x d × ((j : ℕ) → j < h .n → Gives h x j (block (h .s) d j)) × HandsOut h x d × ((e : List ℕ) → Used h x e → e ≡ d)
     used-given =
@@ -65,7 +68,7 @@ module _ (h : Head) (x : Session) (r : Right h x) where
           record { blocks = u .0; fits = u .1 },
           (λ j q.
               subst (Gives h x j) (sym (block-decoded (h .n) (h .m) (h .s) (x .marks) (x .store) j (shape .even) (lent .store-long) q)) (gives-enough h x j q enough)),
-          hands-out h x (decoded (h .n) (h .m) (h .s) (x .marks) (x .store)) enough refl,
+          hands-out h x (decoded (h .n) (h .m) (h .s) (x .marks) (x .store)) (r .lent) enough refl,
           (λ e v. theorems .used-one (h .n) (h .m) (h .s) (x .marks) (x .store) e shape holds (v .blocks) (v .fits)),
         )
 
@@ -125,5 +128,5 @@ demand3 = record {
   complete-has-hash = complete-has-hash;
   some-fits = some-fits;
   used-given = used-given;
-  absent-unseen = λ h x y s. (block-unseen h x y s, content-unseen h x y s, prefix-unseen h x y s);
+  absent-unseen = λ h x y s. (block-unseen h x y s, turn-unseen h x y s, release-unseen h x y s, prefix-unseen h x y s);
 }

@@ -8,7 +8,7 @@ use native.Mathlib.Decide.{ℕ-discrete}
 use native.Mathlib.Omega.{arith}
 use borrow.Author.Tests.{eq-eqb, ne-eqb}
 use lib.Dec.{eqb, ltb}
-use lib.ListN.{length, getD, take}
+use lib.ListN.{length, getD, take, length-replicate}
 use lib.Seq.{take-at}
 use Rattle.little.specs.Fields.{Bytes, bytesOf}
 use Rattle.little.specs.Parts.{put, block}
@@ -16,8 +16,8 @@ use Rattle.little.proofs.Laws.{littleLaws, byteLaws, sameLaws}
 use Rattle.blake3.specs.Tree.{hash}
 use Rattle.cauchy.specs.Code.{joined, recoveryWord, recoveryBlock, codeBlock}
 use Rattle.little.specs.Runs.{any, zeros, same, among}
-use Rattle.sfc.specs.answer.Numbers.{verdict}
-use Rattle.sfc.specs.session.Lent.{shapeWrong, Lent, rebuildWrong}
+use Rattle.sfc.specs.answer.Numbers.{verdict, reasonOf}
+use Rattle.sfc.specs.session.Lent.{shapeWrong}
 use Rattle.sfc.specs.session.Marks.{isHeld, heldCount}
 use Rattle.sfc.specs.format.Chunk.{indexOf, payloadOf, chunkChecks}
 use Rattle.sfc.specs.answer.Places.{number, place}
@@ -26,22 +26,27 @@ use Rattle.sfc.specs.session.Session.{Session, blank, mark, blockOf, ver
 use Rattle.sfc.specs.inner.Steps.{Welcome}
 use Rattle.sfc.specs.session.History.{afterAll, verdicts}
 use Rattle.sfc.specs.session.SessionTheorems.{ChangesOne}
-use Rattle.sfc.specs.give.HandOut.{Rebuilding, lentAfter, handOut}
+use Rattle.sfc.specs.session.Offer.{Logged, blankLogged, besideWrong}
+use Rattle.sfc.specs.give.HandOut.{contentOf}
+use Rattle.sfc.specs.give.Turns.{columnsLeft, releasingOf, Act, releasing, actedAll, offersIn}
+use Rattle.sfc.specs.give.TurnTheorems.{inTurns}
 use Rattle.sfc.specs.writing.Writer.{Input, size, blocks, dataOf, payload, chunk, headFor}
-use Rattle.sfc.specs.demand.Demand2.{AllBelow, different, received, answers, RoomFor}
+use Rattle.sfc.specs.demand.Demand2.{AllBelow, different, received, answers, GivenBack}
 use Rattle.sfc.specs.demand.Demand3.{Right, Fitting}
 use Rattle.sfc.specs.session.Right.{RightShape, RightLent}
 use Rattle.sfc.specs.declared.answer.reason.Checked.the-variants.{Good}
 use Rattle.sfc.specs.declared.session.offer.Verdict.{Verdict}
 use Rattle.sfc.specs.declared.session.offer.Verdict.the-variants.{Fresh, Repeat}
-use Rattle.sfc.specs.declared.give.release.HandedOut.{HandedOut}
-use Rattle.sfc.specs.declared.give.release.HandedOut.the-variants.{Complete}
+use Rattle.sfc.specs.declared.give.release.HandedOut.the-variants.{Complete, Refused as NotHandedOut}
 use Rattle.sfc.proofs.session.MarkLaws.{right-shape}
 use Rattle.sfc.proofs.session.SessionLaws.{right-lent, verdict-fresh, verdict-repeat}
 use Rattle.sfc.proofs.session.HistoryLaws.{after-tallies, total-counted, not-full}
 use Rattle.sfc.proofs.session.OfferLaws.{one-offer}
 use Rattle.sfc.proofs.session.RightLaws.{bytes-zeros, zero-at, blank-right, after-right}
-use Rattle.sfc.proofs.demand.Demand3.{demand3}
+use Rattle.sfc.proofs.session.KeptLaws.{beside-right}
+use Rattle.sfc.proofs.give.ColumnLaws.{blankScratch, made-released}
+use Rattle.sfc.proofs.give.TurnTheorems.{made-history, same-session}
+use Rattle.sfc.proofs.demand.Demand3.{fitting-decoded, demand3}
 use Rattle.sfc.proofs.writing.LengthLaws.{length-data, length-payload}
 use Rattle.sfc.proofs.session.DifferentLaws.{held-different}
 use Rattle.sfc.proofs.writing.ChunkBack.{Made, index-back, payload-back, chunk-good}
@@ -265,15 +270,38 @@ module _ (w : Input) (u : length (w .uuid) ≡ 16) (sh : shapeWrong (size w) (bl
           at j h o true e = e
           at j h o false e = absurd (omega (arith, received-holds .marks j h ∙ ap (λ (t : Bool). cond t 1 0) e))
 
-      module _ (l : Lent) (room : RoomFor w l) where
-        lent-right : rebuildWrong (headFor w) (received w is .store) (received w is .marks) l ≡ false
-        unfolding rebuildWrong
-        lent-right = rw (received-holds .right .lent, eq-eqb (length (l .scratch)) (w .m * w .s) (room .scratch-long), eq-eqb (length (l .numbers)) 1024 (room .numbers-long))
+      enough-held : blocks w ≤ different is → blocks w ≤ heldCount (received w is .marks)
+      enough-held enough = omega (arith, count)
 
-        pub round-trip : blocks w ≤ different is
-            → _≡_ {A = Rebuilding HandedOut} (handOut (headFor w) (received w is .store) (received w is .marks) l)
-            (record { answer = Complete (place (size w)); lent = lentAfter true l (put (l .output) 0 (w .content)) })
-        round-trip enough =
-            demand3 .content-known (headFor w) (received w is) (received-holds .right) (omega (arith, count)) (dataOf w) fitting l
-            (record { right = lent-right; long = room .output-long })
-            ∙ (rw (content-first, sameLaws .same-refl (hash (w .content))))
+      -- what is given is the content, which has its own hash
+      content-back : (y : Logged) (out : List ℕ)
+          → releasing (headFor w) y out
+          ≡ cond (same (hash (take (size w) (dataOf w))) (headFor w .hash)) (releasingOf (Complete (place (size w))) 0 (zeros (w .m * w .s)) (put out 0 (take (size w) (dataOf w))))
+          (releasingOf (NotHandedOut (reasonOf 51)) 0 (zeros (w .m * w .s)) out)
+          → GivenBack w y out
+      content-back y out e = e ∙ rw (content-first, sameLaws .same-refl (hash (w .content)))
+
+      pub round-trip : blocks w ≤ different is → (scratch budgets out : List ℕ) → length scratch ≡ w .m * w .s → w .s / 2 ≤ sum budgets → size w ≤ length out
+          → GivenBack w (inTurns (headFor w) (received w is) scratch budgets) out
+      round-trip enough scratch budgets out l a o =
+          content-back (inTurns (headFor w) (received w is) scratch budgets) out
+          (demand3 .content-known (headFor w) (received w is) (received-holds .right) (enough-held enough) (dataOf w) fitting scratch budgets out l a o)
+
+      -- ---- with turns and releases between the offers
+
+      decoded-data : blocks w ≤ different is → contentOf (headFor w) (received w is .store) (received w is .marks) ≡ take (size w) (dataOf w)
+      unfolding contentOf
+      decoded-data enough = ap (take (size w)) (fitting-decoded (headFor w) (received w is) (received-holds .right) (enough-held enough) (dataOf w) fitting)
+
+      pub round-trip-between : blocks w ≤ different is → (acts : List Act) → offersIn acts ≡ map (chunk w) is
+          → (y : Logged) → y ≡ actedAll (headFor w) (blankLogged (headFor w)) acts
+          → columnsLeft (blocks w) (w .s) (y .session .marks) (y .finished) ≡ 0 → (out : List ℕ) → size w ≤ length out → GivenBack w y out
+      round-trip-between enough acts eo y ey none out o =
+          let t : y .session ≡ received w is
+          = ap (λ (z : Logged). z .session) ey ∙ same-session (headFor w) (blankLogged (headFor w)) acts blank-beside ∙ ap (afterAll (headFor w) (blank (headFor w))) eo in
+          content-back y out
+          (made-released (headFor w) (blankScratch (headFor w)) y (rw ey (made-history (headFor w) acts)) out (λ r v. none)
+          (rw t (received-holds .right .lent)) (rw t (enough-held enough)) o (take (size w) (dataOf w)) (rw t (decoded-data enough)))
+        where
+          blank-beside : besideWrong (headFor w) (blankLogged (headFor w)) ≡ false
+          blank-beside = beside-right (w .m) (w .s) (zeros (w .m * w .s)) 0 (record { long = length-replicate (w .m * w .s) 0; most = omega arith })

@@ -23,12 +23,13 @@ use Rattle.sfc.specs.format.Spot.{spotFor, refusedChunk, checkChunk}
 use Rattle.sfc.specs.answer.Places.{number, place}
 use Rattle.sfc.specs.session.Tallies.{tallyFull}
 use Rattle.sfc.specs.session.Session.{Session, sessionWrong, markChecks, welcomed, verdictOf, settled, after, spotOf}
-use Rattle.sfc.specs.session.Offer.{logged, restarts, offerVerdict, loggedAfter, offered}
+use Rattle.sfc.specs.session.Offer.{logged, offerVerdict, loggedAfter, offered}
 use Rattle.sfc.specs.demand.Unread.{Unread}
 use Rattle.sfc.proofs.answer.CheckLaws.{EachHeld, number-held, good-all, refused-all}
 use Rattle.sfc.proofs.format.PlaceLaws.{le-front, stands-front}
 use Rattle.sfc.proofs.format.SpotLaws.{agreeing-front}
 use Rattle.sfc.proofs.session.BreakLaws.{Own, own-check, own-offer, offer-refused}
+use Rattle.sfc.proofs.session.KeptLaws.{offered-beside}
 use Rattle.sfc.proofs.format.HeaderParts.{read-seen}
 use Rattle.sfc.specs.declared.format.header.Head.{Head}
 use Rattle.sfc.specs.declared.answer.reason.Reason.{Reason}
@@ -151,7 +152,7 @@ module _ (c rest : List ℕ) (whole : chunkLength c ≤ length c) where
       same-offered scratch f = go (rebuildingWrong (h .m) (h .s) scratch f) refl
         where
           go : (b : Bool) → rebuildingWrong (h .m) (h .s) scratch f ≡ b → offered h (logged x scratch f) (c ++ rest) ≡ offered h (logged x scratch f) c
-          go true e = rw e
+          go true e = sym (offered-beside h (logged x scratch f) (c ++ rest) e) ∙ offered-beside h (logged x scratch f) c e
           go false e = rw (e, same-verdict, same-settled (verdictOf h x c), same-broken (verdictOf h x c) refl)
 
 pub unread : Unread

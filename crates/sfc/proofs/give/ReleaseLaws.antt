@@ -7,9 +7,11 @@ use native.Mathlib.Omega.{arith}
 use native.Mathlib.Nat.{mul-le-mul-right}
 use lib.Dec.{ltb}
 use lib.ListN.{length}
+use lib.Seq.{length-take-le}
 use Rattle.little.specs.Parts.{put}
 use Rattle.little.specs.Runs.{zeros, same}
 use Rattle.blake3.specs.Tree.{hash}
+use Rattle.cauchy.specs.Code.{joined}
 use Rattle.cauchy.specs.Decode.{missingData}
 use Rattle.cauchy.proofs.Laws.{missingLaws}
 use Rattle.sfc.specs.answer.Numbers.{Answered}
@@ -18,11 +20,13 @@ use Rattle.sfc.specs.session.Marks.{heldCount}
 use Rattle.sfc.specs.session.Lent.{columnsWrong}
 use Rattle.sfc.specs.session.Right.{RightShape}
 use Rattle.sfc.specs.inner.Gather.{Gatherable, joinedGiven}
-use Rattle.sfc.specs.give.Turns.{columnsLeft, joinedOf, Releasing, releasingOf, release}
+use Rattle.sfc.specs.give.Turns.{columnsLeft, pieceOf, joinedBytes, joinedOf, Releasing, releasingOf, release}
 use Rattle.sfc.specs.declared.format.header.Head.{Head}
 use Rattle.sfc.specs.declared.answer.reason.Reason.the-variants.{Few, ContentHash, OutputShort, Unfinished, Lent as LentWrong}
 use Rattle.sfc.specs.declared.give.release.HandedOut.{HandedOut}
 use Rattle.sfc.specs.declared.give.release.HandedOut.the-variants.{Complete, Refused}
+use Rattle.sfc.proofs.writing.LengthLaws.{length-joined}
+use Rattle.sfc.proofs.give.GatherLaws.{length-piece}
 use Rattle.sfc.proofs.give.RebuildLaws.{cut-right}
 use Rattle.sfc.proofs.give.TurnLaws.{RightColumns}
 
@@ -39,6 +43,19 @@ gatherable size n m s store marks scratch f r e =
       store-long = omega (arith, r .right .store-long, mul-le-mul-right {m = n} {n = n + m} s (omega arith));
       room = omega (arith, r .beside .long, mul-le-mul-right {m = length (missingData n marks)} {n = m} s (omega (arith, k .few, k .same)));
     }
+
+-- so many bytes are joined
+pub length-joined-bytes : (size n m s : ℕ) (store marks scratch : List ℕ) (f : ℕ) → RightColumns size n m s store marks scratch f → n ≤ heldCount marks
+    → length (joinedBytes size n s store marks scratch) ≡ size
+unfolding joinedBytes
+length-joined-bytes size n m s store marks scratch f r e =
+    let g = gatherable size n m s store marks scratch f r e in
+    length-take-le size (joined (λ j. pieceOf s store marks scratch j) 0 n)
+    (omega (
+      arith,
+      length-joined (λ j. pieceOf s store marks scratch j) 0 n s (λ j h. length-piece n s marks store scratch g (0 + j) (omega arith)),
+      cut-right size n m s (r .right .shape) .most,
+    ))
 
 -- ---- past 54, by what the hash says
 

@@ -1,5 +1,5 @@
--- What lies in the store where nothing is held has no part in what a block request, a hand-out or a prefix answers. Assumes
--- nothing.
+-- What lies in the store where nothing is held has no part in what a block request, a turn, a release or a prefix answers.
+-- Assumes nothing.
 use Prim.Native.Nat.{ℕ, zero, suc, _+_, _*_, _<_, _≤_}
 use mathlib.Core.Path.{_≡_, refl, sym, ap, ap₂, _∙_}
 use mathlib.Core.Bool.{Bool, true, false, cond, not, _&&_}
@@ -13,16 +13,18 @@ use lib.ListN.{length, getD, take, length-take}
 use lib.Seq.{getD-take, take-add}
 use Rattle.little.specs.Parts.{put, block}
 use Rattle.little.proofs.Laws.{testLaws}
-use Rattle.cauchy.specs.Decode.{decode, decoded}
-use Rattle.cauchy.proofs.Laws.{codeLaws}
+use Rattle.cauchy.specs.Decode.{rank, decode}
+use Rattle.cauchy.specs.Calls.{rebuiltScratch}
+use Rattle.cauchy.proofs.Laws.{codeLaws, scratchLaws}
 use Rattle.cauchy.proofs.Theorems.{theorems}
 use Rattle.sfc.specs.answer.Numbers.{Check, checked, passes, Passed}
 use Rattle.sfc.specs.answer.Places.{number, place}
 use Rattle.sfc.specs.session.Marks.{isHeld, heldCount}
 use Rattle.sfc.specs.session.Session.{Session}
-use Rattle.sfc.specs.session.Lent.{lentWrong, Lent, rebuildWrong}
+use Rattle.sfc.specs.session.Lent.{lentWrong, Lent, rebuildWrong, columnsWrong}
 use Rattle.sfc.specs.give.Prefix.{leading, prefixBlocks, prefixGiven}
-use Rattle.sfc.specs.give.HandOut.{lentAfter, contentOf, handOut}
+use Rattle.sfc.specs.give.HandOut.{lentAfter}
+use Rattle.sfc.specs.give.Turns.{turnCount, turn, pieceOf, joinedBytes, joinedOf, release}
 use Rattle.sfc.specs.give.Block.{blockGiven, blockLent, blockChecks, blockRequest}
 use Rattle.sfc.specs.demand.Demand3.{SameHeld}
 use Rattle.sfc.specs.declared.format.header.Head.{Head}
@@ -30,6 +32,8 @@ use Rattle.sfc.specs.declared.answer.reason.Reason.{Reason}
 use Rattle.sfc.specs.declared.give.block.BlockGiven.the-variants.{Unverified, Refused}
 use Rattle.sfc.proofs.session.SessionLaws.{right-lent}
 use Rattle.sfc.proofs.session.HeldLaws.{decode-held}
+use Rattle.sfc.proofs.give.TurnLaws.{right-columns}
+use Rattle.sfc.proofs.give.ColumnLaws.{count-fits}
 use Rattle.sfc.proofs.give.GivenLaws.{lent-right}
 
 -- what comes after checks matters only where they all pass
@@ -54,10 +58,6 @@ module _ (h : Head) (x y : Session) (alike : SameHeld h x y) (l : Lent) where
         let r = right-lent (h .size) (h .n) (h .m) (h .s) (x .store) (x .marks) (lent-right h (x .store) (x .marks) l right) in
         theorems .blind (h .n) (h .m) (h .s) (x .marks) (y .store) (x .store) (r .shape .s-even) (r .marks-long) (omega (arith)) (alike .blocks) j q
 
-    same-content : h .n ≤ heldCount (x .marks) → contentOf h (y .store) (x .marks) ≡ contentOf h (x .store) (x .marks)
-    unfolding contentOf decoded
-    same-content v = ap (take (h .size)) (codeLaws .joined-ext _ _ (h .n) (same-decode v))
-
   same-given : (j : ℕ) → Passed (blockChecks h (x .store) (x .marks) j l) → blockGiven h (y .store) (x .marks) j ≡ blockGiven h (x .store) (x .marks) j
   same-given j p =
       let q : j < h .n = leb-false (h .n) j (p .1 .0) in
@@ -78,15 +78,49 @@ module _ (h : Head) (x y : Session) (alike : SameHeld h x y) (l : Lent) where
       })
       (checked-same (blockChecks h (x .store) (x .marks) j l) (λ (r : Reason). l .output) _ _ (λ p. ap (put (l .output) 0) (same-given j p))))
 
-  pub content-unseen : handOut h (y .store) (y .marks) l ≡ handOut h (x .store) (x .marks) l
-  unfolding handOut
-  content-unseen = go (rebuildWrong h (x .store) (x .marks) l) refl
+-- ---- turns and a release
+
+module _ (h : Head) (x y : Session) (alike : SameHeld h x y) where
+  same-columns : (scratch : List ℕ) (f : ℕ) → columnsWrong (h .size) (h .n) (h .m) (h .s) (y .store) (y .marks) scratch f
+      ≡ columnsWrong (h .size) (h .n) (h .m) (h .s) (x .store) (x .marks) scratch f
+  unfolding columnsWrong lentWrong
+  same-columns scratch f = rw (alike .marks, alike .store-long)
+
+  same-rebuilt : (scratch : List ℕ) (f b : ℕ) → columnsWrong (h .size) (h .n) (h .m) (h .s) (x .store) (x .marks) scratch f ≡ false → h .n ≤ heldCount (x .marks)
+      → rebuiltScratch (h .n) (h .m) (h .s) (x .marks) (y .store) f (turnCount h (x .marks) f b) scratch
+      ≡ rebuiltScratch (h .n) (h .m) (h .s) (x .marks) (x .store) f (turnCount h (x .marks) f b) scratch
+  same-rebuilt scratch f b e v =
+      let r = right-columns (h .size) (h .n) (h .m) (h .s) (x .store) (x .marks) scratch f e in
+      scratchLaws .blind-rebuilt (h .n) (h .m) (h .s) (x .marks) (y .store) (x .store) f (turnCount h (x .marks) f b) scratch
+      (r .right .shape .s-even) (r .right .marks-long) v (count-fits h (x .marks) f b (r .beside .most)) (alike .blocks)
+
+  pub turn-unseen : (scratch numbers : List ℕ) (f b : ℕ) → turn h (y .store) (y .marks) scratch numbers f b ≡ turn h (x .store) (x .marks) scratch numbers f b
+  unfolding turn
+  turn-unseen scratch numbers f b = go (columnsWrong (h .size) (h .n) (h .m) (h .s) (x .store) (x .marks) scratch f) refl
     where
-      go : (b : Bool) → rebuildWrong h (x .store) (x .marks) l ≡ b → handOut h (y .store) (y .marks) l ≡ handOut h (x .store) (x .marks) l
-      go true w = rw (same-wrong, w)
+      go : (t : Bool) → columnsWrong (h .size) (h .n) (h .m) (h .s) (x .store) (x .marks) scratch f ≡ t
+          → turn h (y .store) (y .marks) scratch numbers f b ≡ turn h (x .store) (x .marks) scratch numbers f b
+      go true w = rw (same-columns scratch f, w)
       go false w =
-          ⊎-elim (λ (v : heldCount (x .marks) < h .n). rw (same-wrong, alike .marks, w, lt-ltb (heldCount (x .marks)) (h .n) v))
-          (λ (v : h .n ≤ heldCount (x .marks)). rw (same-wrong, alike .marks, same-content w v)) (testLaws .below-or (heldCount (x .marks)) (h .n))
+          ⊎-elim (λ (v : heldCount (x .marks) < h .n). rw (same-columns scratch f, alike .marks, w, lt-ltb (heldCount (x .marks)) (h .n) v))
+          (λ (v : h .n ≤ heldCount (x .marks)). rw (same-columns scratch f, alike .marks, w, same-rebuilt scratch f b w v)) (testLaws .below-or (heldCount (x .marks)) (h .n))
+
+  -- of the store only held blocks are joined
+  same-piece : (scratch : List ℕ) (j : ℕ) → j < h .n → pieceOf (h .s) (y .store) (x .marks) scratch j ≡ pieceOf (h .s) (x .store) (x .marks) scratch j
+  same-piece scratch j q = go (isHeld (getD (x .marks) j 0)) refl
+    where
+      go : (t : Bool) → isHeld (getD (x .marks) j 0) ≡ t
+          → cond t (block (h .s) (y .store) j) (block (h .s) scratch (rank j (x .marks))) ≡ cond t (block (h .s) (x .store) j) (block (h .s) scratch (rank j (x .marks)))
+      go true e = alike .blocks j (omega arith) (eqb-true (getD (x .marks) j 0) 1 e)
+      go false e = refl
+
+  same-joined : (scratch : List ℕ) → joinedOf h (y .store) (x .marks) scratch ≡ joinedOf h (x .store) (x .marks) scratch
+  unfolding joinedBytes
+  same-joined scratch = ap (take (h .size)) (codeLaws .joined-ext _ _ (h .n) (same-piece scratch))
+
+  pub release-unseen : (scratch : List ℕ) (f : ℕ) (out : List ℕ) → release h (y .store) (y .marks) scratch f out ≡ release h (x .store) (x .marks) scratch f out
+  unfolding release
+  release-unseen scratch f out = rw (same-columns scratch f, alike .marks, same-joined scratch)
 
 -- ---- the prefix
 

@@ -240,7 +240,7 @@ total-counted t (Fresh i p) = omega arith
 total-counted t (Repeat i p) = omega arith
 total-counted t (Refused r) = total-refusal t (numberOf r)
 
-settled-tallies : (h : Head) (x : Session) (c : List ℕ) (v : Verdict) → settled h x c v .tallies ≡ x .tallies
+pub settled-tallies : (h : Head) (x : Session) (c : List ℕ) (v : Verdict) → settled h x c v .tallies ≡ x .tallies
 unfolding settled
 settled-tallies h x c (Fresh i p) = refl
 settled-tallies h x c (Repeat i p) = refl
