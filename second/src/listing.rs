@@ -1,9 +1,10 @@
 //! The listing of a file, as the program sfc_list prints it.
 use crate::blake3::hex;
 use crate::container::{measure_chunk, must, read_header, Head, Refusal};
-use crate::hand_out::{Lent, Scratch};
+use crate::hand_out::Lent;
 use crate::note::{counts, missing, ranges};
 use crate::session::Session;
+use crate::work::Work;
 use crate::writer::Plan;
 use std::io::{Read, Write};
 
@@ -33,7 +34,8 @@ fn lines(file: &[u8]) -> Result<Vec<String>, u8> {
     let head = read_header(file)?;
     let blocks = (head.n + head.m) as usize;
     must(blocks as u64 * head.s <= STORE, 15)?;
-    let mut session = Session::new(&head, vec![0; blocks * head.s as usize], vec![0; blocks]);
+    let work = Work::blank((head.m * head.s) as usize);
+    let mut session = Session::new(&head, vec![0; blocks * head.s as usize], vec![0; blocks], work);
     let refusals = offer_all(&mut session, &head, file);
     let (store, marks) = (session.store(), session.marks());
     let (held, barred) = counts(&head, &marks)?;
@@ -44,9 +46,10 @@ fn lines(file: &[u8]) -> Result<Vec<String>, u8> {
     lines.extend(refusals);
     lines.push(format!("held={held} barred={barred}"));
     lines.extend(ranges(&missing(&head, &marks)?).iter().map(|(first, last)| format!("missing {first}-{last}")));
-    let mut scratch = Scratch { bytes: vec![0; (head.m * head.s) as usize], numbers: vec![0; 1024] };
-    let given = Lent { head: &head, store: &store, marks: &marks }.hand_out(&mut scratch, head.size as usize);
-    let last = match given {
+    let memory = Lent { head: &head, store: &store, marks: &marks };
+    // one turn for all columns, so that a release is refused by 50 or 51 alone
+    let turned = memory.turn(&mut session.work, &mut [0; 1024], head.s / 2);
+    let last = match turned.and_then(|_| memory.release(&mut session.work, head.size as usize)) {
         Ok(_) => "complete",
         Err(51) => "hash differs",
         Err(_) => "incomplete",

@@ -17,6 +17,7 @@ mod probe_cases;
 mod recovery_blocks;
 mod script;
 mod session;
+mod work;
 mod writer;
 
 const USAGE: &str =

@@ -1,13 +1,15 @@
 //! What the program sfc_probe prints for the same frames, which crates/sfc_probe/src/frame.rt describes.
 mod hand_outs;
 mod listings;
+mod turns;
 mod writes;
 
 use crate::blake3::{hash, hex};
 use crate::container::{check_chunk, find_field, measure_chunk, read_header, Head, Refusal};
 use crate::note::{counts, missing, note, prefix, ranges, read_note};
 use crate::session::Session;
-use hand_outs::Call;
+use crate::work::Work;
+use hand_outs::{Call, Single};
 pub use listings::{LEAST_OUTPUT, OTHER_LENGTH};
 use std::fmt::Display;
 use std::io::Read;
@@ -57,13 +59,19 @@ pub const WRITE: u8 = 72;
 pub const HAND_OUT_SETS: u8 = 73;
 pub const BLOCK_SETS: u8 = 74;
 pub const LISTING: u8 = 75;
+pub const WORK: u8 = 80;
+pub const WORK_FROM: u8 = 81;
+pub const SPOIL: u8 = 82;
+pub const FINISHED: u8 = 83;
+pub const TURN: u8 = 84;
+pub const RELEASE: u8 = 85;
 
 /// The most bytes that a file has here, and a printed line.
 const ROOM: usize = 65_536;
 const LINE: usize = 4_096;
 /// The same of a file that is longer for one reading.
 const LONG_ROOM: usize = 65_613;
-/// The longest output of a hand-out, a block request or a writer that is shown byte by byte.
+/// The longest output or scratch that is shown byte by byte.
 const SHOWN: usize = 64;
 /// The most marks of a session.
 const MARKS: usize = 4_096;
@@ -183,11 +191,11 @@ fn lent<T: Copy>(given: Result<Vec<T>, u8>, count: usize, pattern: T) -> (Result
     (given.map(|parts| parts.len()), output)
 }
 
-/// Prints a short output byte by byte, and the hash of a longer one.
-fn print_output(output: &[u8]) {
+/// A short output byte by byte, and the hash of a longer one.
+fn shown(output: &[u8]) -> String {
     match output.len() {
-        0..=SHOWN => print!(" {}", hex(output)),
-        _ => print!(" hash {}", hex(&hash(output))),
+        0..=SHOWN => hex(output),
+        _ => format!("hash {}", hex(&hash(output))),
     }
 }
 
@@ -223,8 +231,7 @@ struct Probe {
     kept: Vec<u8>,
     head: Head,
     session: Session,
-    /// How many bytes and numbers are lent as scratch.
-    scratch: (usize, usize),
+    single: Single,
 }
 
 impl Probe {
@@ -319,14 +326,28 @@ impl Probe {
         println!("store {}", hex(&hash(&self.session.store())));
         let tallies: Vec<String> = self.session.tallies.iter().map(u64::to_string).collect();
         println!("tallies {}", tallies.join(" "));
+        println!("rebuild {}", turns::told(&self.session.work));
     }
 
-    /// A session on memory as the file has it: first the marks, after them the store.
-    fn lend(&mut self, store: usize, marks: usize) {
+    /// The rebuild that a session begins with.
+    fn blank_work(&self) -> Work {
+        Work::blank(ROOM.min((self.head.m * self.head.s) as usize))
+    }
+
+    fn begin(&mut self, first_mark: u8, store: usize, marks: usize) {
+        let mut marks = vec![0; marks.min(MARKS)];
+        put(&mut marks, 0, &[first_mark]);
+        self.session = Session::new(&self.head, vec![0; store.min(ROOM)], marks, self.blank_work());
+    }
+
+    /// A session on memory as the file has it: first the marks, after them the store. It may go on with the rebuild at hand.
+    fn lend(&mut self, goes_on: bool, store: usize, marks: usize) {
+        let blank = self.blank_work();
+        let work = if goes_on { std::mem::replace(&mut self.session.work, blank) } else { blank };
         let (lent_marks, rest) = self.file.split_at(marks.min(self.file.len()));
         let lent_store = &rest[..store.min(rest.len())];
         let lent_marks = &lent_marks[..lent_marks.len().min(MARKS)];
-        self.session = Session::new(&self.head, lent_store.to_vec(), lent_marks.to_vec());
+        self.session = Session::new(&self.head, lent_store.to_vec(), lent_marks.to_vec(), work);
     }
 
     fn give_prefix(&self, room: usize) {
@@ -416,13 +437,9 @@ impl Probe {
     /// Frames of a session.
     fn session_frame(&mut self, opcode: u8, small: u8, a: usize, b: usize) {
         match opcode {
-            BEGIN => {
-                let mut marks = vec![0; b.min(MARKS)];
-                put(&mut marks, 0, &[small]);
-                self.session = Session::new(&self.head, vec![0; a.min(ROOM)], marks);
-            }
-            LEND => self.lend(a, b),
-            SCRATCH => self.scratch = (a, b),
+            BEGIN => self.begin(small, a, b),
+            LEND => self.lend(small > 0, a, b),
+            SCRATCH => self.single = Single { bytes: a, numbers: b, budget: small },
             SET_TALLY => {
                 if let Some(tally) = self.session.tallies.get_mut(a) {
                     *tally = b as u64;
@@ -482,8 +499,8 @@ fn answer(frames: Vec<u8>) -> Probe {
     let mut input = Input(frames.into_iter());
     // before a header is read, chunks are held to one of zeros
     let head = Head { uuid: vec![0; 16], hash: vec![0; 32], ..Head::default() };
-    let session = Session::new(&head, Vec::new(), Vec::new());
-    let mut probe = Probe { file: Vec::new(), kept: Vec::new(), head, session, scratch: (0, 0) };
+    let session = Session::new(&head, Vec::new(), Vec::new(), Work::blank(0));
+    let mut probe = Probe { file: Vec::new(), kept: Vec::new(), head, session, single: Single::default() };
     loop {
         let frame = input.take(10);
         if frame.len() < 10 || frame[0] == 0 {
@@ -500,6 +517,7 @@ fn answer(frames: Vec<u8>) -> Probe {
                 probe.edit_frame(opcode, small, a, b);
                 probe.reader_frame(opcode, small, a, b);
                 probe.session_frame(opcode, small, a, b);
+                probe.work_frame(opcode, small, a, b);
                 probe.note_frame(opcode, a);
                 probe.give_back_frame(opcode, small, a, b);
             }

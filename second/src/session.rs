@@ -1,18 +1,20 @@
 //! A session as what each index has met: no payload, one, or payloads that differ.
 use crate::container::{check_chunk, measure_chunk, Head, Refusal, INDEX_PLACE};
 use crate::note::is_lent_right;
+use crate::work::Work;
 use std::collections::{BTreeMap, BTreeSet};
 
 /// The sum of the tallies at which no further offer is counted.
 const FULL: u64 = 4_294_967_295;
 
-/// The store and the marks as they were lent, and what has been offered.
+/// The store and the marks as they were lent, what has been offered, and the rebuild as it stands.
 /// Tallies: fresh, repeat, and the refusals by 30 to 42.
 pub struct Session {
     lent_store: Vec<u8>,
     lent_marks: Vec<u8>,
     met: BTreeMap<u64, BTreeSet<Vec<u8>>>,
     pub tallies: [u64; 15],
+    pub work: Work,
 }
 
 /// An accepted offer: whether it was fresh, and its index.
@@ -23,7 +25,7 @@ pub struct Offered {
 
 impl Session {
     /// A held index has met its block of the lent store, and a barred one two payloads that no chunk has.
-    pub fn new(head: &Head, lent_store: Vec<u8>, lent_marks: Vec<u8>) -> Session {
+    pub fn new(head: &Head, lent_store: Vec<u8>, lent_marks: Vec<u8>, work: Work) -> Session {
         let width = head.s as usize;
         let payloads = |(index, mark): (usize, &u8)| match mark {
             1 => {
@@ -34,22 +36,27 @@ impl Session {
             _ => None,
         };
         let met = lent_marks.iter().enumerate().filter_map(payloads).collect();
-        Session { lent_store, lent_marks, met, tallies: [0; 15] }
+        Session { lent_store, lent_marks, met, tallies: [0; 15], work }
     }
 
     pub fn offer(&mut self, head: &Head, chunk: &[u8]) -> Result<Offered, Refusal> {
-        if !is_lent_right(head, &self.lent_store, &self.lent_marks) {
+        if !is_lent_right(head, &self.lent_store, &self.lent_marks) || !self.work.is_right(head) {
             return Err(Refusal::nowhere(71));
         }
         if self.tallies.iter().sum::<u64>() >= FULL {
             return Err(Refusal::nowhere(43));
         }
+        let marks_before = self.marks();
         let verdict = self.meet(head, chunk);
         let tally = match &verdict {
             Ok(offered) => usize::from(!offered.fresh),
             Err(refusal) => usize::from(refusal.number - 28),
         };
         self.tallies[tally] += 1;
+        // what was rebuilt was rebuilt from other marks
+        if self.marks() != marks_before {
+            self.work.restart();
+        }
         verdict
     }
 

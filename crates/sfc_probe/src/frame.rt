@@ -61,19 +61,22 @@ pub(crate) const CHUNK_LENGTHS: u8 = 43;
 // How long the chunk is that begins the b bytes at a.
 pub(crate) const MEASURE_CHUNK: u8 = 44;
 
-// A session begins with a store of a zeros and b marks of 0, but for the first, which is the small number.
+// A session begins with a store of a zeros and b marks of 0, but for the first, which is the small number. Its scratch is as many
+// zeros as the kept head wants, M·S, and no column is finished.
 pub(crate) const BEGIN: u8 = 50;
 // Tally a (fresh, repeat, then the refusals from 30 on) becomes b.
 pub(crate) const SET_TALLY: u8 = 51;
 // The b bytes at a are offered.
 pub(crate) const OFFER: u8 = 52;
-// Marks, store and tallies are shown.
+// Marks, store, tallies, scratch and finished columns are shown.
 pub(crate) const SHOW: u8 = 53;
-// A session begins with the first b bytes of the file as its marks and the a bytes after them as its store.
+// A session begins with the first b bytes of the file as its marks and the a bytes after them as its store. Scratch and finished
+// columns are as at another beginning with the small number 0, else as they stand: so memory may change between turns.
 pub(crate) const LEND: u8 = 54;
-// Later hand-outs and block requests get a scratch of a bytes and b numbers.
+// Later hand-outs and block requests get a scratch of their own of a bytes, and they and later turns b numbers. The turns of a
+// hand-out have the small number as their budget; with 0 there is one, for all columns.
 pub(crate) const SCRATCH: u8 = 55;
-// Each chunk of the b bytes at a is offered, as they stand one after the other; marks, store and tallies are then shown.
+// Each chunk of the b bytes at a is offered, as they stand one after the other; what there is of the session is then shown.
 pub(crate) const OFFER_CHUNKS: u8 = 56;
 
 // The prefix, the missing list or the note of the session is asked for, with an output of a bytes or numbers that have a
@@ -94,8 +97,9 @@ pub(crate) const LIST_RANGES: u8 = 66;
 
 pub(crate) const COUNT_MARKS: u8 = 67;
 
-// The content is asked for, with an output of a bytes; block a is, with an output of b bytes. Output and scratch have a
-// pattern before the call; printed are the output, or its hash where it is long, and what became of the scratch.
+// The content is asked for, with an output of a bytes: turns from column 0 on until one is refused or nothing is left, and a
+// release, whatever they came to. Block a is, with an output of b bytes. Output and scratch have a pattern before; printed are
+// the output, or its hash where it is long, what became of the scratch, and how many turns did anything.
 pub(crate) const HAND_OUT: u8 = 70;
 
 pub(crate) const BLOCK: u8 = 71;
@@ -116,6 +120,22 @@ pub(crate) const WRITE: u8 = 72;
 // bytes, of zeros after its end, and may be a byte longer than else. Memory and output have a pattern before the call;
 // printed are what became of them, and the text.
 pub(crate) const LISTING: u8 = 75;
+
+// The session's scratch becomes a bytes of the small number, and b columns are finished; the same with the first a bytes of the
+// file.
+pub(crate) const WORK: u8 = 80;
+
+pub(crate) const WORK_FROM: u8 = 81;
+// Byte a of the session's scratch is changed by exclusive or with the small number; a columns are finished.
+pub(crate) const SPOIL: u8 = 82;
+
+pub(crate) const FINISHED: u8 = 83;
+// A turn on the session's scratch with a budget of a columns, and numbers that have a pattern. Printed are the answer, the
+// scratch, the finished columns, and what became of the numbers.
+pub(crate) const TURN: u8 = 84;
+// The content is released, with an output of a bytes that have a pattern. Printed are the answer, the output, or its hash where
+// it is long, the scratch and the finished columns.
+pub(crate) const RELEASE: u8 = 85;
 
 pub(crate) struct Frame {
     pub(crate) opcode: u8,

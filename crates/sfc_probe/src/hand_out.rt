@@ -1,20 +1,20 @@
-// Frames that ask for the content or for a block.
+// Frames that ask for the content, by turns and a release, or for a block, over scratch of their own.
 use crate::frame;
 use crate::frame::Frame;
 use crate::print;
 use crate::sets;
+use crate::turns;
 use sfc::BlockGiven;
 use sfc::BlockNumber;
-use sfc::HandedOut;
 use sfc::Head;
 use sfc::block;
-use sfc::hand_out;
 use sfc::number_of;
 
-// How many bytes and numbers are lent as scratch.
+// How many bytes and numbers are lent as scratch, and the budget of a hand-out's turns, 0 where there is one for all columns.
 pub(crate) struct Scratch {
     pub(crate) bytes: usize,
     pub(crate) numbers: usize,
+    pub(crate) budget: u32,
 }
 
 // The scratch after a frame.
@@ -23,35 +23,20 @@ pub(crate) fn scratch_after(frame: Frame, before: Scratch) -> Scratch {
         return Scratch {
             bytes: frame.a as usize,
             numbers: frame.b as usize,
+            budget: frame.small as u32,
         };
     }
     before
 }
 
-// What a call answered: the number of the refusal or 0, and the block and the place that it gave.
+// What was answered in the end: the number of the refusal or 0, the block and the place that were given; and of a hand-out the
+// columns that are finished after it, and how many turns did any.
 pub(crate) struct Told {
     pub(crate) answer: u8,
     pub(crate) block: u64,
     pub(crate) place: u64,
-}
-
-fn told_refused(answer: u8) -> Told {
-    Told {
-        answer,
-        block: 0,
-        place: 0,
-    }
-}
-
-fn told_handed_out(handed: HandedOut) -> Told {
-    match handed {
-        HandedOut::Complete(end) => Told {
-            answer: 0,
-            block: 0,
-            place: end.0 as u64,
-        },
-        HandedOut::Refused(reason) => told_refused(number_of(reason)),
-    }
+    pub(crate) finished: u32,
+    pub(crate) turns: u32,
 }
 
 fn told_given(given: BlockGiven) -> Told {
@@ -60,8 +45,16 @@ fn told_given(given: BlockGiven) -> Told {
             answer: 0,
             block: number.0 as u64,
             place: place.0 as u64,
+            finished: 0,
+            turns: 0,
         },
-        BlockGiven::Refused(reason) => told_refused(number_of(reason)),
+        BlockGiven::Refused(reason) => Told {
+            answer: number_of(reason),
+            block: 0,
+            place: 0,
+            finished: 0,
+            turns: 0,
+        },
     }
 }
 
@@ -69,10 +62,11 @@ fn is_for_content(opcode: u8) -> bool {
     (opcode == frame::HAND_OUT) | (opcode == frame::HAND_OUT_SETS)
 }
 
-// The call that a frame asks for, with a pattern in all that it may write to.
+// What a frame asks for, with a pattern in all that may be written to.
 pub(crate) fn call(
     frame: Frame,
     head: Head,
+    budget: u32,
     store: &[u8],
     marks: &[u8],
     scratch: &mut [u8],
@@ -83,7 +77,7 @@ pub(crate) fn call(
     little::fill16(numbers, 0xA5A5);
     little::fill8(out, 0xA5);
     if is_for_content(frame.opcode) {
-        return told_handed_out(hand_out(head, store, marks, scratch, numbers, out));
+        return turns::hand_out(head, budget, store, marks, scratch, numbers, out);
     }
     told_given(block(
         head,
@@ -136,24 +130,33 @@ fn print_told(opcode: u8, told: Told) {
     }
 }
 
-// One call, its answer, the output and the scratch.
+fn print_rest(opcode: u8, told: Told) {
+    if is_for_content(opcode) {
+        print::field(b" finished ", told.finished as u64);
+        print::field(b" turns ", told.turns as u64);
+    }
+    print::line_end();
+}
+
+// The answer, the output, the scratch, and what is told of the turns.
 fn one(
     frame: Frame,
     head: Head,
+    budget: u32,
     store: &[u8],
     marks: &[u8],
     scratch: &mut [u8],
     numbers: &mut [u16],
     out: &mut [u8],
 ) {
-    let told = call(frame, head, store, marks, scratch, numbers, out);
+    let told = call(frame, head, budget, store, marks, scratch, numbers, out);
     print_told(frame.opcode, told);
     print::output(out);
     print::text(b" scratch ");
     print_state(bytes_state(scratch));
     print::text(b" numbers ");
     print_state(numbers_state(numbers));
-    print::line_end();
+    print_rest(frame.opcode, told);
 }
 
 fn output_length(frame: Frame, s: u32) -> usize {
@@ -166,8 +169,8 @@ fn output_length(frame: Frame, s: u32) -> usize {
     }
 }
 
-// One number more than a hand-out takes.
-fn numbers_room() -> [u16; 1025] {
+// One number more than a turn takes.
+pub(crate) fn numbers_room() -> [u16; 1025] {
     [0u16; 1025]
 }
 
@@ -185,9 +188,27 @@ fn ask_with(
     let end = little::within16(lent.numbers, &room);
     let numbers = &mut room[..end];
     if (frame.opcode == frame::HAND_OUT) | (frame.opcode == frame::BLOCK) {
-        one(frame, head, store, marks, scratch, numbers, out);
+        one(
+            frame,
+            head,
+            lent.budget,
+            store,
+            marks,
+            scratch,
+            numbers,
+            out,
+        );
     } else {
-        sets::sweep(frame, head, store, marks, scratch, numbers, out);
+        sets::sweep(
+            frame,
+            head,
+            lent.budget,
+            store,
+            marks,
+            scratch,
+            numbers,
+            out,
+        );
     }
 }
 

@@ -12,6 +12,8 @@ mod print;
 mod run;
 mod session;
 mod sets;
+mod turns;
+mod work;
 mod write;
 
 use edit::Sizes;
@@ -82,11 +84,28 @@ fn serve_session(
     session: Session,
     store: &mut [u8],
     marks: &mut [u8],
+    scratch: &mut [u8],
     file: &[u8],
     end: usize,
 ) -> Session {
     let length = little::within8(end, file);
-    session::serve(frame, head, session, store, marks, &file[..length])
+    session::serve(frame, head, session, store, marks, scratch, &file[..length])
+}
+
+// What a frame leaves of the file, and of the head that was read from one.
+struct Read {
+    sizes: Sizes,
+    head: Head,
+}
+
+// A frame as far as the file goes.
+fn serve_file(frame: Frame, before: Sizes, head: Head, file: &mut [u8], kept: &mut [u8]) -> Read {
+    let sizes = edit::resize(frame, before, file, kept);
+    let end = little::within8(sizes.file, file);
+    Read {
+        sizes,
+        head: serve(frame, head, &mut file[..end]),
+    }
 }
 
 // One frame. An opcode belongs to one of the kinds, and the others let it pass.
@@ -97,23 +116,30 @@ fn step(
     kept: &mut [u8],
     store: &mut [u8],
     marks: &mut [u8],
+    scratch: &mut [u8],
 ) -> State {
     let sizes_before = state.sizes;
     let head_before = state.head;
-    let session_before = state.session;
-    let sizes = edit::resize(frame, sizes_before, file, kept);
-    let end = little::within8(sizes.file, file);
-    let head = serve(frame, head_before, &mut file[..end]);
-    let session = serve_session(frame, head, session_before, store, marks, file, end);
+    let before = state.session;
+    let read = serve_file(frame, sizes_before, head_before, file, kept);
+    let sizes = read.sizes;
+    let head = read.head;
+    let end = sizes.file;
     State {
         sizes,
         head,
-        session,
+        session: serve_session(frame, head, before, store, marks, scratch, file, end),
     }
 }
 
 // A proved loop has to end, and nothing says that the input does: the turns count down from a number that no run uses up.
-fn interpret(file: &mut [u8], kept: &mut [u8], store: &mut [u8], marks: &mut [u8]) {
+fn interpret(
+    file: &mut [u8],
+    kept: &mut [u8],
+    store: &mut [u8],
+    marks: &mut [u8],
+    scratch: &mut [u8],
+) {
     let mut state = start();
     let mut turns = u64::MAX;
     while 0 < turns {
@@ -121,7 +147,7 @@ fn interpret(file: &mut [u8], kept: &mut [u8], store: &mut [u8], marks: &mut [u8
         if frame.opcode == frame::END {
             return;
         }
-        let next = step(frame, state, file, kept, store, marks);
+        let next = step(frame, state, file, kept, store, marks, scratch);
         state = next;
         turns -= 1;
     }
@@ -132,5 +158,6 @@ fn main() {
     let mut kept = io::large_buffer();
     let mut store = io::large_buffer();
     let mut marks = io::buffer();
-    interpret(&mut file, &mut kept, &mut store, &mut marks);
+    let mut scratch = io::large_buffer();
+    interpret(&mut file, &mut kept, &mut store, &mut marks, &mut scratch);
 }

@@ -1,5 +1,6 @@
 // What the answers are printed with.
 use libc::STDOUT_FILENO;
+use sfc::ColumnCount;
 use sfc::Spot;
 use sfc::Written;
 use sfc::number_of;
@@ -58,6 +59,17 @@ pub(crate) fn numbers(numbers: &[u32]) {
 pub(crate) fn field(label: &[u8], n: u64) {
     text(label);
     decimal(n);
+}
+
+// The scratch of a session: its length, and that it is zeros or, as an output, what it has; and the columns finished in it.
+pub(crate) fn work(scratch: &[u8], finished: ColumnCount) {
+    field(b" scratch ", scratch.len() as u64);
+    if little::are_all8(scratch, 0) {
+        text(b" zeros");
+    } else {
+        output(scratch);
+    }
+    field(b" finished ", finished.0 as u64);
 }
 
 // Where a chunk broke.

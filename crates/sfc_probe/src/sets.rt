@@ -1,4 +1,4 @@
-// One call for each of many sets of marks.
+// One answer for each of many sets of marks.
 use crate::edit;
 use crate::frame::Frame;
 use crate::hand_out;
@@ -41,9 +41,11 @@ fn put_store(store: &[u8], marks: &[u8], width: usize, seen: &mut [u8]) {
     }
 }
 
-// What the digest is made of: what it was, the answer, the state of the scratch, and the output's hash.
+// What the digest is made of: what it was, the answer, the state of the scratch, and the output's hash. The turns are not in it,
+// so that it is the same for each budget.
 fn put_record(text: &mut [u8], digest: &[u8], told: Told, bytes: u8, numbers: u8, out: &[u8]) {
-    let answer = told.answer as u64 + 256 * bytes as u64 + 65536 * numbers as u64;
+    let state = 256 * bytes as u64 + 65536 * numbers as u64 + 16777216 * told.finished as u64;
+    let answer = told.answer as u64 + state;
     let hash = blake3::hash(out);
     edit::copy(digest, text);
     little::write64(text, 32, answer);
@@ -64,6 +66,7 @@ fn add_to(digest: &mut [u8], told: Told, bytes: u8, numbers: u8, out: &[u8]) {
 fn try_set(
     frame: Frame,
     head: Head,
+    budget: u32,
     store: &[u8],
     marks: &[u8],
     scratch: &mut [u8],
@@ -71,7 +74,7 @@ fn try_set(
     out: &mut [u8],
     digest: &mut [u8],
 ) -> bool {
-    let told = hand_out::call(frame, head, store, marks, scratch, numbers, out);
+    let told = hand_out::call(frame, head, budget, store, marks, scratch, numbers, out);
     let bytes = hand_out::bytes_state(scratch);
     add_to(digest, told, bytes, hand_out::numbers_state(numbers), out);
     told.answer == 0
@@ -92,6 +95,7 @@ fn counted(before: usize, is_given: bool) -> usize {
 fn try_sets(
     frame: Frame,
     head: Head,
+    budget: u32,
     store: &[u8],
     seen: &mut [u8],
     marks: &mut [u8],
@@ -106,7 +110,17 @@ fn try_sets(
     while set < count {
         put_marks(marks, set as u8, frame.small);
         put_store(store, marks, head.s as usize, seen);
-        let is_given = try_set(frame, head, seen, marks, scratch, numbers, out, digest);
+        let is_given = try_set(
+            frame,
+            head,
+            budget,
+            seen,
+            marks,
+            scratch,
+            numbers,
+            out,
+            digest,
+        );
         given = counted(given, is_given);
         set += 1;
     }
@@ -116,6 +130,7 @@ fn try_sets(
 pub(crate) fn sweep(
     frame: Frame,
     head: Head,
+    budget: u32,
     store: &[u8],
     marks: &[u8],
     scratch: &mut [u8],
@@ -130,6 +145,7 @@ pub(crate) fn sweep(
     let given = try_sets(
         frame,
         head,
+        budget,
         store,
         &mut seen[..seen_end],
         &mut copied[..copied_end],

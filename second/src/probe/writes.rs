@@ -1,5 +1,5 @@
 //! The frame that writes a file from inputs that stand in the file at hand.
-use super::{lent, number, print_output, Probe, PATTERN, ROOM};
+use super::{lent, number, shown, Probe, PATTERN, ROOM};
 use crate::writer::Plan;
 
 /// The most indices of a priority list.
@@ -43,8 +43,7 @@ impl Probe {
             Ok(length) => print!("written {length}"),
             Err(number) => print!("{number}"),
         }
-        print_output(&output);
-        println!();
+        println!(" {}", shown(&output));
         self.file = written.unwrap_or(std::mem::take(&mut self.file));
     }
 }
