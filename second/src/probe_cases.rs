@@ -7,7 +7,9 @@ pub mod headers;
 mod histories;
 pub mod listings;
 mod notes;
+mod restarts;
 mod sessions;
+mod turns;
 mod walks;
 mod writes;
 
@@ -78,7 +80,7 @@ fn frames_out_of_range(script: &mut Script) {
     for opcode in [MEASURE_CHUNK, OFFER_CHUNKS, COUNT_MARKS] {
         script.frame(opcode, 1, most, most);
     }
-    for opcode in [NOTE_VALUES, NOTE_LENGTHS, SET_HEAD] {
+    for opcode in [NOTE_VALUES, NOTE_LENGTHS, SET_HEAD, FINISHED, WORK_FROM, WORK, SPOIL, TURN, RELEASE, SHOW] {
         script.frame(opcode, 1, most, most);
     }
     script.frame(PREFIX, 0, 3, 0);
@@ -103,7 +105,8 @@ fn frames_out_of_range(script: &mut Script) {
 /// Some frames that are about one thing.
 type Part = fn(&mut Script);
 
-const BEFORE_A_HEADER: &[Part] = &[chunks::before_a_header, notes::before_a_header, handouts::before_a_header];
+const BEFORE_A_HEADER: &[Part] =
+    &[chunks::before_a_header, notes::before_a_header, handouts::before_a_header, turns::before_a_header];
 
 const READING: &[Part] = &[
     headers::written_files,
@@ -166,6 +169,24 @@ const HAND_OUTS: &[Part] = &[
     handouts::order_of_checks,
 ];
 
+const TURNS: &[Part] = &[
+    turns::budgets,
+    turns::every_set,
+    turns::finished_counts,
+    turns::forged_scratch,
+    turns::other_memory,
+    turns::wrong_memory,
+    turns::wrong_numbers,
+    turns::order_of_checks,
+    restarts::chunks_between,
+    restarts::forged_between,
+    restarts::refused_between,
+    restarts::wrong_beside,
+    restarts::walks_between,
+    restarts::requests_between,
+    restarts::wide_blocks,
+];
+
 const WRITES: &[Part] = &[writes::round_trips, writes::numbers, writes::names, writes::lists, writes::fields];
 
 const LISTINGS: &[Part] = &[
@@ -188,7 +209,7 @@ const LISTINGS: &[Part] = &[
 pub fn write(part_from_outside: Part) {
     let mut script = Script::default();
     let last = [part_from_outside, frames_out_of_range];
-    for part in [BEFORE_A_HEADER, READING, SESSIONS, NOTES, HAND_OUTS, WRITES, LISTINGS, &last].concat() {
+    for part in [BEFORE_A_HEADER, READING, SESSIONS, NOTES, HAND_OUTS, TURNS, WRITES, LISTINGS, &last].concat() {
         part(&mut script);
     }
     std::io::stdout().write_all(&script.0).expect("standard output can be written");

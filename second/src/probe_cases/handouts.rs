@@ -2,6 +2,7 @@
 //! memory, and the order of the checks.
 use super::headers::at;
 use super::sessions::{each_head_number, set_head_numbers, show, Stage, AT_HOUSE_LIMITS};
+use super::turns::{release, turn};
 use crate::note::HELD;
 use crate::probe::*;
 use crate::script::*;
@@ -10,7 +11,7 @@ use crate::writer::Plan;
 /// How many numbers of scratch are right.
 const NUMBERS: usize = 1024;
 
-fn most() -> usize {
+pub fn most() -> usize {
     u32::MAX as usize
 }
 
@@ -20,38 +21,38 @@ fn hand_out(script: &mut Script, rooms: &[usize]) {
     }
 }
 
-fn block(script: &mut Script, numbers: &[usize], room: usize) {
+pub fn block(script: &mut Script, numbers: &[usize], room: usize) {
     for &number in numbers {
         script.frame(BLOCK, 0, number, room);
     }
 }
 
-fn scratch_for(script: &mut Script, plan: &Plan) {
+pub fn scratch_for(script: &mut Script, plan: &Plan) {
     script.frame(SCRATCH, 0, (plan.m * plan.s) as usize, NUMBERS);
 }
 
 /// Keeps the head of a plan, and lends scratch for it.
-fn set_head(script: &mut Script, plan: &Plan) {
+pub fn set_head(script: &mut Script, plan: &Plan) {
     script.load(&plan.file_around(&[]));
     script.read();
     scratch_for(script, plan);
 }
 
 /// Memory for the head at hand, from the marks and the blocks.
-fn lend(script: &mut Script, marks: &[u8], store: &[u8]) {
+pub fn lend(script: &mut Script, marks: &[u8], store: &[u8]) {
     script.load(&[marks, store].concat());
     script.frame(LEND, 0, store.len(), marks.len());
 }
 
 /// The blocks one after the other, those not held with other bytes in their place.
-fn store_of(plan: &Plan, marks: &[u8]) -> Vec<u8> {
+pub fn store_of(plan: &Plan, marks: &[u8]) -> Vec<u8> {
     let blocks = plan.blocks().into_iter().zip(marks);
     let other = |byte: &u8| byte ^ 0x5A;
     blocks.flat_map(|(block, &mark)| if mark == HELD { block } else { block.iter().map(other).collect() }).collect()
 }
 
 /// A session of a plan with these marks.
-fn lend_session(script: &mut Script, title: &str, plan: &Plan, marks: &[u8]) {
+pub fn lend_session(script: &mut Script, title: &str, plan: &Plan, marks: &[u8]) {
     script.say(title);
     set_head(script, plan);
     lend(script, marks, &store_of(plan, marks));
@@ -174,7 +175,7 @@ pub fn every_withheld_set(script: &mut Script) {
 }
 
 /// Bytes that no file has.
-fn noise(length: usize) -> Vec<u8> {
+pub fn noise(length: usize) -> Vec<u8> {
     (0..length).map(|i| ((i * i + 3 * i) * 41 % 257) as u8).collect()
 }
 
@@ -264,10 +265,14 @@ pub fn sizes(script: &mut Script) {
     hand_out(script, &[8182, 8183, 8192]);
     block(script, &[0, 1], 4096);
     block(script, &[1], 4095);
+    for budget in [2000, 47, 1, most()] {
+        turn(script, budget);
+        release(script, 8183);
+    }
 }
 
 /// Memory of zeros, of which the first block is held.
-fn held_zeros(script: &mut Script, store: usize, marks: usize) {
+pub fn held_zeros(script: &mut Script, store: usize, marks: usize) {
     script.frame(BEGIN, HELD, store, marks);
 }
 

@@ -70,7 +70,7 @@ fn marks(chance: &mut Chance, count: usize, lawful: bool) -> Vec<u8> {
     marks
 }
 
-/// Offers of all kinds, with prefix, missing list, note, hand-out and a block in between.
+/// Offers of all kinds, with turns, prefix, missing list, note, hand-out, a block and a release in between.
 fn history(script: &mut Script, chance: &mut Chance, parts: &[(usize, usize)], offers: usize) {
     for turn in 1..=offers {
         let (at, length) = parts[chance.below(parts.len())];
@@ -89,12 +89,16 @@ fn history(script: &mut Script, chance: &mut Chance, parts: &[(usize, usize)], o
             }
             _ => script.frame(OFFER, 0, at, length),
         }
+        if turn % 3 == 0 {
+            script.frame(TURN, 0, chance.below(4), 0);
+        }
         if turn % 10 == 0 {
             script.frame(PREFIX, 0, 44, 0);
             script.frame(LIST_MISSING, 0, 8, 0);
             script.frame(WRITE_NOTE, 0, 55, 0);
             script.frame(HAND_OUT, 0, 44, 0);
             script.frame(BLOCK, 0, chance.below(9), 6);
+            script.frame(RELEASE, 0, 44, 0);
         }
     }
     show(script);
