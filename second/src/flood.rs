@@ -134,18 +134,35 @@ impl Base {
         }
     }
 
+    /// Rebuilds some columns; now and then scratch or the count is forged, or the release comes too soon.
+    fn rebuild(&self, script: &mut Script, chance: &mut Chance) {
+        let (s, m) = (self.plan.s as usize, self.plan.m as usize);
+        let columns = s / 2;
+        match chance.below(24) {
+            0 => script.frame(SPOIL, 1 + chance.below(255) as u8, chance.below(m * s + 1), 0),
+            1 => script.frame(FINISHED, 0, chance.below(columns + 2), 0),
+            2 => script.frame(WORK, chance.below(256) as u8, (m * s + chance.below(3)).saturating_sub(1), columns),
+            3 => script.frame(RELEASE, 0, self.plan.content.len(), 0),
+            _ => script.frame(TURN, 0, pick(chance, &[0, 1, 1, 2, 3, columns, u32::MAX as usize]), 0),
+        }
+    }
+
     /// Asks for all that a session gives back.
     fn ask(&self, script: &mut Script, chance: &mut Chance) {
         let (size, n) = (self.plan.content.len(), self.plan.data_count());
         script.frame(SHOW, 0, 0, 0);
+        self.rebuild(script, chance);
         script.frame(PREFIX, 0, size + chance.below(3), 0);
         script.frame(LIST_MISSING, 0, 8, 0);
         script.frame(WRITE_NOTE, 0, 80, 0);
         script.frame(HAND_OUT, 0, size + chance.below(3), 0);
         script.frame(BLOCK, 0, chance.below(n + 1), self.plan.s as usize);
+        self.rebuild(script, chance);
+        script.frame(RELEASE, 0, (size + chance.below(8)).saturating_sub(1), 0);
     }
 
-    /// Spoils the file, lists it, reads it, and offers its chunks in another order; then it is as it was.
+    /// Spoils the file, lists it, reads it, and offers its chunks in another order, with turns of a rebuild between them; then
+    /// it is as it was.
     fn one_file(&self, script: &mut Script, chance: &mut Chance) {
         for _ in 0..pick(chance, &[0, 1, 1, 2, 2, 3]) {
             self.spoil_chunk(script, chance);
@@ -158,11 +175,14 @@ impl Base {
         let (s, m) = (self.plan.s as usize, self.plan.m as usize);
         let count = self.plan.data_count() + m;
         script.frame(BEGIN, 0, count * s, count);
-        script.frame(SCRATCH, 0, m * s, 1024);
+        script.frame(SCRATCH, pick(chance, &[0, 0, 1, 2, 3]), m * s, 1024);
         let mut order = self.chunks.clone();
         shuffle(chance, &mut order);
         for (at, length) in order {
             script.frame(OFFER, 0, at, length);
+            if chance.below(3) == 0 {
+                self.rebuild(script, chance);
+            }
         }
         self.ask(script, chance);
         script.restore();
