@@ -182,6 +182,7 @@ const TURNS: &[Part] = &[
     restarts::forged_between,
     restarts::refused_between,
     restarts::wrong_beside,
+    restarts::wrong_sessions,
     restarts::walks_between,
     restarts::requests_between,
     restarts::wide_blocks,

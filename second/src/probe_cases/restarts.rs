@@ -136,6 +136,20 @@ pub fn wrong_beside(script: &mut Script) {
     script.say("71 before 43");
     script.frame(SET_TALLY, 0, 0, most());
     stage.offer(script, 1);
+}
+
+/// 71 of an offer by the session itself, and M = 0, which has no scratch: what stands beside stays as well.
+pub fn wrong_sessions(script: &mut Script) {
+    let stage = stage(script);
+    for (title, first_mark, store) in [("a mark above 2", 3, stage.store), ("a byte less of store", 1, stage.store - 1)]
+    {
+        script.say(&format!("offers with {title}: scratch and the count stay"));
+        script.frame(BEGIN, first_mark, store, 5);
+        script.frame(WORK, 0x33, 16, 2);
+        stage.offer(script, 0);
+        stage.offer(script, 1);
+        show(script);
+    }
     let plan = plan(SIZE, 8, 0);
     let stage = Stage::set(script, &plan);
     for (bytes, finished) in [(0, 0), (0, 4), (0, 5), (1, 0)] {
