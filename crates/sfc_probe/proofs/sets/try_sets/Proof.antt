@@ -7,10 +7,10 @@ use Rattle.sfc_probe.proofs.sets.try_sets.Statement.{statement}
 use Rattle.sfc_probe.proofs.sets.try_sets.Tie as tie
 
 abbrev Inv-loop : tie.InvT-loop
-Inv-loop frame head store seen₀ marks₀ scratch₀ numbers₀ out₀ digest₀ count given₀ set₀ seen marks scratch numbers out digest given set = (count ≤ 256) × (length seen ≡ length seen₀) × (length marks ≡ length marks₀) × (length scratch ≡ length scratch₀) × (length numbers ≡ length numbers₀) × (length out ≡ length out₀) × (length digest ≡ length digest₀)
+Inv-loop frame head budget store seen₀ marks₀ scratch₀ numbers₀ out₀ digest₀ count given₀ set₀ seen marks scratch numbers out digest given set = (count ≤ 256) × (length seen ≡ length seen₀) × (length marks ≡ length marks₀) × (length scratch ≡ length scratch₀) × (length numbers ≡ length numbers₀) × (length out ≡ length out₀) × (length digest ≡ length digest₀)
 
 abbrev μ-loop : tie.MeasureT-loop
-μ-loop frame head store seen₀ marks₀ scratch₀ numbers₀ out₀ digest₀ count given₀ set₀ seen marks scratch numbers out digest given set = count - set
+μ-loop frame head budget store seen₀ marks₀ scratch₀ numbers₀ out₀ digest₀ count given₀ set₀ seen marks scratch numbers out digest given set = count - set
 
 pub try-sets-spec : {M : Type 1} → statement M
 try-sets-spec =
