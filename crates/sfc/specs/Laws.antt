@@ -1,6 +1,6 @@
 -- What the floors above may rely on beside the calls' promises and the theorems: how lists of checks decide, what is known once 71
--- lets something through, how a chunk is measured and offered, what a turn and a release give, and what is known of a file that our writer wrote. Statements, proved in
--- proofs/Laws.antt; no other law of this crate is seen above.
+-- lets something through, how a chunk is measured and offered, what a turn and a release give, and what is known of a file that our
+-- writer wrote. Statements, proved in proofs/Laws.antt; no other law of this crate is seen above.
 use Prim.Native.Nat.{ℕ, _+_, _-_, _*_, _/_, _≤_, _<_}
 use mathlib.Core.Path.{_≡_}
 use mathlib.Core.Bool.{true, false, cond}

@@ -68,7 +68,7 @@ use Rattle.sfc.proofs.session.KeptLaws.{by-verdict, own-offer, restart}
 use Rattle.sfc.proofs.session.HistoryLaws.{settled-tallies}
 use Rattle.sfc.proofs.session.OfferLaws.{one-offer}
 use Rattle.sfc.proofs.note.NoteLaws.{length-bounds}
-use Rattle.sfc.proofs.session.HeldLaws.{length-decode, length-content}
+use Rattle.sfc.proofs.session.HeldLaws.{length-decode}
 use Rattle.sfc.proofs.give.TurnLaws.{right-columns}
 use Rattle.sfc.proofs.give.ReleaseLaws.{length-joined-bytes}
 use Rattle.sfc.proofs.give.ColumnLaws.{turn-not, kept-on}

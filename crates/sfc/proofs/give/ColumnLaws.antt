@@ -1,15 +1,14 @@
 -- What turns leave: one invariant, which starts, turns, offers and releases keep; and that a release over it is the hand-out.
 -- Assumes nothing.
-use Prim.Native.Nat.{ℕ, _+_, _-_, _*_, _/_, _<_, _≤_, min}
+use Prim.Native.Nat.{ℕ, _+_, _-_, _*_, _/_, _<_, _≤_}
 use mathlib.Core.Path.{_≡_, refl, sym, ap, ap₂, _∙_, subst}
-use mathlib.Core.Bool.{Bool, true, false, cond, not, _||_, true≢false}
+use mathlib.Core.Bool.{Bool, true, false, cond, not, true≢false}
 use mathlib.Core.Logic.{_⊎_, ⊎-elim}
-use mathlib.Core.List.{List, [], _∷_, _++_}
+use mathlib.Core.List.{List}
 use native.Mathlib.Omega.{arith}
 use native.Mathlib.Nat.{min-le-right}
-use native.Mathlib.Decide.{ℕ-discrete}
 use borrow.Author.Tests.{le-ltb, lt-ltb, ltb-false, eqb-true, not-false}
-use lib.Dec.{eqb, ltb}
+use lib.Dec.{eqb}
 use lib.ListN.{length, getD, take, length-replicate}
 use Rattle.little.specs.Parts.{put, block}
 use Rattle.little.specs.Runs.{zeros, same}
@@ -18,7 +17,7 @@ use Rattle.blake3.specs.Tree.{hash}
 use Rattle.cauchy.specs.Decode.{missingData, decode, decoded}
 use Rattle.cauchy.specs.Calls.{rebuiltScratch}
 use Rattle.cauchy.proofs.Laws.{codeLaws, scratchLaws}
-use Rattle.sfc.specs.answer.Numbers.{Check, checked, verdict, passes, Passed}
+use Rattle.sfc.specs.answer.Numbers.{verdict, passes}
 use Rattle.sfc.specs.answer.Places.{place}
 use Rattle.sfc.specs.session.Marks.{heldCount}
 use Rattle.sfc.specs.session.Lent.{lentWrong, rebuildingWrong, columnsWrong}
@@ -42,7 +41,7 @@ use Rattle.sfc.proofs.answer.CheckLaws.{good-all, refused-all, passed}
 use Rattle.sfc.proofs.session.SessionLaws.{right-lent}
 use Rattle.sfc.proofs.session.KeptLaws.{RightBeside, beside-right, by-verdict, anew, goes-on}
 use Rattle.sfc.proofs.give.GatherLaws.{piece-restored}
-use Rattle.sfc.proofs.give.TurnLaws.{RightColumns, right-columns, left-none, left-some, left-most}
+use Rattle.sfc.proofs.give.TurnLaws.{left-some, left-most}
 use Rattle.sfc.proofs.give.ReleaseLaws.{gatherable}
 
 -- ---- a turn, by what its checks come to

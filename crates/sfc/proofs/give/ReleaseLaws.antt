@@ -1,6 +1,6 @@
 -- A release: what it may take for granted past 54, and its answers. Assumes nothing.
-use Prim.Native.Nat.{ℕ, _+_, _*_, _^_, _<_, _≤_}
-use mathlib.Core.Path.{_≡_, refl, sym, ap, _∙_}
+use Prim.Native.Nat.{ℕ, _+_, _^_, _<_, _≤_}
+use mathlib.Core.Path.{_≡_, sym}
 use mathlib.Core.Bool.{Bool, true, false, cond, not, true≢false, false≢true}
 use mathlib.Core.List.{List}
 use native.Mathlib.Omega.{arith}
@@ -20,7 +20,7 @@ use Rattle.sfc.specs.session.Marks.{heldCount}
 use Rattle.sfc.specs.session.Lent.{columnsWrong}
 use Rattle.sfc.specs.session.Right.{RightShape}
 use Rattle.sfc.specs.inner.Gather.{Gatherable, joinedGiven}
-use Rattle.sfc.specs.give.Turns.{columnsLeft, pieceOf, joinedBytes, joinedOf, Releasing, releasingOf, release}
+use Rattle.sfc.specs.give.Turns.{columnsLeft, pieceOf, joinedBytes, joinedOf, releasingOf, release}
 use Rattle.sfc.specs.declared.format.header.Head.{Head}
 use Rattle.sfc.specs.declared.answer.reason.Reason.the-variants.{Few, ContentHash, OutputShort, Unfinished, Lent as LentWrong}
 use Rattle.sfc.specs.declared.give.release.HandedOut.{HandedOut}

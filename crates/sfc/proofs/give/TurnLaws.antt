@@ -1,7 +1,7 @@
 -- A turn: what it may take for granted past 71, how many columns are left, and its answers. Assumes nothing.
-use Prim.Native.Nat.{ℕ, _+_, _-_, _*_, _/_, _<_, _≤_, min}
-use mathlib.Core.Path.{_≡_, refl, sym, ap, _∙_}
-use mathlib.Core.Bool.{Bool, true, false, cond, not, _||_, true≢false}
+use Prim.Native.Nat.{ℕ, _+_, _-_, _/_, _≤_}
+use mathlib.Core.Path.{_≡_, sym, ap, _∙_}
+use mathlib.Core.Bool.{Bool, true, false, cond, true≢false}
 use mathlib.Core.List.{List}
 use native.Mathlib.Omega.{arith}
 use borrow.Author.Tests.{eq-eqb, ne-eqb}
@@ -19,7 +19,7 @@ use Rattle.sfc.specs.session.Marks.{heldCount}
 use Rattle.sfc.specs.session.Lent.{lentWrong, rebuildingWrong, columnsWrong}
 use Rattle.sfc.specs.session.Right.{RightLent}
 use Rattle.sfc.specs.inner.Gather.{Rebuildable}
-use Rattle.sfc.specs.give.Turns.{gone, columnsLeft, Turning, turningOf, turnCount, turn}
+use Rattle.sfc.specs.give.Turns.{gone, columnsLeft, turningOf, turnCount, turn}
 use Rattle.sfc.specs.declared.format.header.Head.{Head}
 use Rattle.sfc.specs.declared.answer.reason.Reason.the-variants.{Few, Lent as LentWrong}
 use Rattle.sfc.specs.declared.give.turn.Turned.the-variants.{Did, Refused as NoTurn}

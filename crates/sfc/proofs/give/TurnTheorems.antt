@@ -1,20 +1,19 @@
 -- Turns and releases (specs/give/TurnTheorems.antt), from the invariant of ColumnLaws. Assumes nothing.
-use Prim.Native.Nat.{ℕ, zero, suc, _+_, _-_, _*_, _/_, _%_, _<_, _≤_, min}
+use Prim.Native.Nat.{ℕ, _+_, _-_, _*_, _/_, _%_, _<_, _≤_, min}
 use mathlib.Core.Path.{_≡_, refl, sym, ap, _∙_}
-use mathlib.Core.Bool.{Bool, true, false, cond, not}
-use mathlib.Core.Logic.{_⊎_, inl, inr, ⊎-elim, _↔_}
-use mathlib.Core.List.{List, [], _∷_, _++_}
+use mathlib.Core.Bool.{Bool, true, false, cond}
+use mathlib.Core.Logic.{_⊎_, ⊎-elim, _↔_}
+use mathlib.Core.List.{List, [], _∷_}
 use native.Mathlib.Omega.{arith}
 use native.Mathlib.Nat.{min-eq-left, min-comm, mul-le-mul-right, suc-mul, div-add-mod', mod-lt}
-use borrow.Author.Tests.{eq-eqb, le-ltb, lt-ltb, ltb-false, not-false}
-use lib.Dec.{eqb, ltb}
+use borrow.Author.Tests.{eq-eqb, le-ltb, ltb-false, not-false}
 use lib.ListN.{length, getD, length-replicate}
 use Rattle.little.specs.Parts.{put}
 use Rattle.little.specs.Runs.{zeros, same}
 use Rattle.little.proofs.Laws.{testLaws, sameLaws}
 use Rattle.blake3.specs.Tree.{hash}
 use Rattle.cauchy.specs.Code.{wordOf}
-use Rattle.cauchy.specs.Calls.{inRange, rebuiltScratch}
+use Rattle.cauchy.specs.Calls.{rebuiltScratch}
 use Rattle.cauchy.proofs.Laws.{scratchLaws}
 use Rattle.cauchy.proofs.Theorems.{theorems}
 use Rattle.sfc.specs.answer.Numbers.{checked, verdict, passes}
@@ -25,9 +24,9 @@ use Rattle.sfc.specs.session.Tallies.{noTallies, sum}
 use Rattle.sfc.specs.session.Session.{Session, sessionOf}
 use Rattle.sfc.specs.give.HandOut.{contentChecks, handOut}
 use Rattle.sfc.specs.session.History.{afterAll}
-use Rattle.sfc.specs.session.Offer.{Logged, logged, blankLogged, besideWrong, restarts, offerVerdict, loggedAfter}
+use Rattle.sfc.specs.session.Offer.{Logged, logged, blankLogged, besideWrong, offerVerdict, loggedAfter}
 use Rattle.sfc.specs.give.Turns.{gone, columnsLeft, Turning, turnChecks, turnCount, turn, turnDone, joinedOf, releaseLent, releaseChecks, release, Act, turning, acted, actedAll, offersIn}
-use Rattle.sfc.specs.give.TurnTheorems.{missingWord, DidColumns, ColumnsRight, GoingOn, turnsIn, turnsWanted, Ready, Finished, Releasable, turnsOf, inTurns, HandsOutAs, AsBefore, InTurns}
+use Rattle.sfc.specs.give.TurnTheorems.{missingWord, DidColumns, ColumnsRight, GoingOn, turnsIn, Ready, Finished, Releasable, turnsOf, inTurns, HandsOutAs, InTurns}
 use Rattle.sfc.specs.declared.format.header.Head.{Head}
 use Rattle.sfc.specs.declared.answer.places.BytePlace.{BytePlace}
 use Rattle.sfc.specs.declared.answer.places.ColumnCount.{ColumnCount}
@@ -38,7 +37,7 @@ use Rattle.sfc.specs.declared.give.turn.Turned.{Turned}
 use Rattle.sfc.specs.declared.give.turn.Turned.the-variants.{Did, Refused as NoTurn}
 use Rattle.sfc.specs.declared.give.release.HandedOut.{HandedOut}
 use Rattle.sfc.specs.declared.give.release.HandedOut.the-variants.{Complete, Refused as NotHandedOut}
-use Rattle.sfc.proofs.answer.CheckLaws.{good-all, all-passed, let-through}
+use Rattle.sfc.proofs.answer.CheckLaws.{good-all, let-through}
 use Rattle.sfc.proofs.session.RightLaws.{zero-at}
 use Rattle.sfc.proofs.session.SessionLaws.{right-lent}
 use Rattle.sfc.proofs.session.KeptLaws.{RightBeside, beside-right, right-beside, own-offer, restart, goes-on}

@@ -16,7 +16,7 @@ use Rattle.sfc.specs.session.Lent.{rebuildingWrong}
 use Rattle.sfc.specs.session.Tallies.{counted, countedRefusal}
 use Rattle.sfc.specs.session.Session.{Session, verdictOf, settled, afterVerdict, after, spotOf}
 use Rattle.sfc.specs.session.History.{afterAll}
-use Rattle.sfc.specs.session.Offer.{Logged, logged, besideWrong, offerVerdict, restarts, scratchAfter, finishedAfter, loggedBy, loggedAfter, loggedAll, Offered, offeredOf, offered}
+use Rattle.sfc.specs.session.Offer.{Logged, logged, besideWrong, offerVerdict, restarts, scratchAfter, finishedAfter, loggedBy, loggedAfter, loggedAll, offeredOf, offered}
 use Rattle.sfc.specs.give.TurnTheorems.{Anew, AsBefore, OwnOffer, Restart}
 use Rattle.sfc.specs.declared.format.header.Head.{Head}
 use Rattle.sfc.specs.declared.answer.reason.Reason.the-variants.{Lent as LentWrong}

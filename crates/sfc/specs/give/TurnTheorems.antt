@@ -1,6 +1,6 @@
 -- What is proved of turns and releases (document 02, [8]): statements, proved in proofs/give/TurnTheorems.antt. h is any head, y all
 -- that is kept of a session; store, marks, scratch, numbers and output are any bytes, f and b any numbers.
-use Prim.Native.Nat.{ℕ, zero, suc, _+_, _-_, _*_, _/_, _≤_, _<_, min}
+use Prim.Native.Nat.{ℕ, suc, _+_, _-_, _*_, _/_, _≤_, _<_, min}
 use mathlib.Core.Path.{_≡_}
 use mathlib.Core.Logic.{_≢_, _↔_}
 use mathlib.Core.Bool.{false}

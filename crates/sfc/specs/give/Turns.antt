@@ -11,7 +11,7 @@ use Rattle.blake3.specs.Tree.{hash}
 use Rattle.cauchy.specs.Code.{joined}
 use Rattle.cauchy.specs.Decode.{missingData, rank}
 use Rattle.cauchy.specs.Calls.{rebuiltScratch}
-use Rattle.sfc.specs.answer.Numbers.{Check, checked, passes, Answered}
+use Rattle.sfc.specs.answer.Numbers.{Check, checked, passes}
 use Rattle.sfc.specs.answer.Places.{place, columns}
 use Rattle.sfc.specs.session.Marks.{isHeld, heldCount}
 use Rattle.sfc.specs.session.Lent.{columnsWrong}

@@ -3,7 +3,6 @@ use mathlib.Core.Path.{refl}
 use native.Mathlib.Omega.{arith}
 use native.Mathlib.Nat.{mul-le-mul}
 use Rattle.sfc.specs.session.Lent.{rebuildingWrong}
-use borrow.Author.Needs.{needs}
 use Rattle.sfc.proofs.session.lent.is_rebuilding_wrong.Statement.{statement}
 use Rattle.sfc.proofs.session.lent.is_rebuilding_wrong.Tie as tie
 

@@ -1,8 +1,6 @@
 -- `sfc::session::offer::finished_after` meets its contract: what was rebuilt stays, or is cleared. Assumes nothing.
 use mathlib.Core.Path.{refl, sym, _∙_}
-use mathlib.Core.Bool.{true, false}
 use borrow.Author.Tests.{not-true, not-false}
-use Rattle.sfc.specs.session.Offer.{restarts}
 use borrow.Author.Needs.{needs}
 use Rattle.sfc.proofs.session.offer.finished_after.Statement.{statement}
 use Rattle.sfc.proofs.session.offer.finished_after.Tie as tie
