@@ -1,13 +1,12 @@
--- The chunks that stand one after the other from the front of some bytes (document 01, "Resend note and listing"), and a session
--- to which each of them was offered. Assumes nothing: these are definitions.
+-- The chunks that stand one after the other from the front of some bytes (document 01, "Resend note and listing"), and what is kept
+-- once each of them was offered. Assumes nothing: these are definitions.
 use Prim.Native.Nat.{ℕ, zero, suc, _+_}
 use mathlib.Core.Bool.{cond}
 use mathlib.Core.List.{List, [], _∷_}
 use lib.ListN.{length, take, drop}
 use Rattle.sfc.specs.answer.Numbers.{passes}
 use Rattle.sfc.specs.format.Chunk.{chunkLength, measureChecks}
-use Rattle.sfc.specs.session.Session.{Session, sessionOf}
-use Rattle.sfc.specs.session.History.{afterAll}
+use Rattle.sfc.specs.session.Offer.{Logged, loggedOf, loggedAll}
 use Rattle.sfc.specs.declared.format.header.Head.{Head}
 use Rattle.sfc.specs.declared.session.tallies.Tallies.{Tallies}
 
@@ -29,13 +28,13 @@ unfoldable pub lengthOfAll : List (List ℕ) → ℕ
 lengthOfAll [] = 0
 lengthOfAll (c ∷ cs) = length c + lengthOfAll cs
 
--- what a walk leaves: the session, and the place where no chunk begins
+-- what a walk leaves: all that is kept, and the place where no chunk begins
 pub record Walk : Type 0 where
-  pub session : Session
+  pub kept : Logged
   pub end : ℕ
 
-abbrev pub walkOf : List ℕ → List ℕ → Tallies → ℕ → Walk
-walkOf store marks tallies end = record { session = sessionOf store marks tallies; end = end }
+abbrev pub walkOf : List ℕ → List ℕ → Tallies → List ℕ → ℕ → ℕ → Walk
+walkOf store marks tallies scratch finished end = record { kept = loggedOf store marks tallies scratch finished; end = end }
 
-unfoldable pub walkOver : Head → Session → List ℕ → Walk
-walkOver h x b = record { session = afterAll h x (chunksOf h b); end = lengthOfAll (chunksOf h b) }
+unfoldable pub walkOver : Head → Logged → List ℕ → Walk
+walkOver h y b = record { kept = loggedAll h y (chunksOf h b); end = lengthOfAll (chunksOf h b) }

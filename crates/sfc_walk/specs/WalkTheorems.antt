@@ -11,11 +11,12 @@ use Rattle.sfc.specs.format.Chunk.{chunkLength, measureChecks}
 use Rattle.sfc.specs.session.Tallies.{total}
 use Rattle.sfc.specs.session.Session.{Session, sessionWrong, verdictOf}
 use Rattle.sfc.specs.session.History.{afterAll, verdicts}
+use Rattle.sfc.specs.session.Offer.{Logged, besideWrong}
 use Rattle.sfc.specs.declared.format.header.Head.{Head}
 use Rattle.sfc.specs.declared.answer.reason.Reason.{Reason}
 use Rattle.sfc.specs.declared.session.offer.Verdict.{Verdict}
 use Rattle.sfc.specs.declared.session.offer.Verdict.the-variants.{Fresh, Repeat, Refused}
-use Rattle.sfc_walk.specs.Walk.{frontLength, chunksIn, chunksOf, lengthOfAll}
+use Rattle.sfc_walk.specs.Walk.{frontLength, chunksIn, chunksOf, lengthOfAll, walkOver}
 
 unfoldable pub concat : List (List ℕ) → List ℕ
 concat [] = []
@@ -58,3 +59,6 @@ pub record WalkTheorems : Type 0 where
       → (r : Reason)
       × (verdictOf h (afterAll h x (chunksOf h b)) (drop (lengthOfAll (chunksOf h b)) b) ≡ Refused r)
       × (30 ≤ numberOf r) × (numberOf r ≤ 32)
+  -- Where 71 has nothing against what was rebuilt, that has no say in the session: it is the one after the chunks, offered in order.
+  pub walk-session : (h : Head) (y : Logged) (b : List ℕ) → besideWrong h y ≡ false
+      → walkOver h y b .kept .session ≡ afterAll h (y .session) (chunksOf h b)

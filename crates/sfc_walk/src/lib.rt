@@ -1,16 +1,18 @@
 // The walk over the chunks that stand one after the other in a file: each is offered to a session, whatever the offer answers.
 use sfc::ChunkMeasured;
+use sfc::ColumnCount;
 use sfc::Head;
 use sfc::Tallies;
 use sfc::measure_chunk;
 use sfc::offer;
 ghost use mathlib.Core.Path.{_≡_};
-ghost use Rattle.sfc.specs.session.Session.{sessionOf};
+ghost use Rattle.sfc.specs.session.Offer.{loggedOf};
 ghost use Rattle.sfc_walk.specs.Walk.{frontLength, walkOf, walkOver};
 
-// The tallies, and the place of the first byte that belongs to no chunk.
+// The tallies, how many rebuilt columns still count, and the place of the first byte that belongs to no chunk.
 pub struct Walked {
     pub tallies: Tallies,
+    pub finished: ColumnCount,
     pub end: usize,
 }
 
@@ -33,11 +35,14 @@ pub fn offer_chunks(
     tallies: Tallies,
     store: &mut [u8],
     marks: &mut [u8],
+    scratch: &mut [u8],
+    finished: ColumnCount,
     bytes: &[u8],
 ) -> Walked
-    ensures { λ r. ⌜ walkOf (now (store .exit)) (now (marks .exit)) (r .tallies) (r .end) ≡ walkOver h (sessionOf (now (store .entry)) (now (marks .entry)) tallies) (now (bytes .entry)) ⌝ }
+    ensures { λ r. ⌜ walkOf (now (store .exit)) (now (marks .exit)) (r .tallies) (now (scratch .exit)) (r .finished .0) (r .end) ≡ walkOver h (loggedOf (now (store .entry)) (now (marks .entry)) tallies (now (scratch .entry)) (finished .0)) (now (bytes .entry)) ⌝ }
 {
     let mut counted = tallies;
+    let mut done = finished;
     let mut at = 0;
     let mut most = bytes.len();
     while 0 < most {
@@ -46,16 +51,19 @@ pub fn offer_chunks(
         if length == 0 {
             return Walked {
                 tallies: counted,
+                finished: done,
                 end: at,
             };
         }
-        let answer = offer(h, counted, store, marks, &rest[..length]);
+        let answer = offer(h, counted, store, marks, scratch, done, &rest[..length]);
         counted = answer.tallies;
+        done = answer.finished;
         most -= 1;
         at = at + length;
     }
     Walked {
         tallies: counted,
+        finished: done,
         end: at,
     }
 }
