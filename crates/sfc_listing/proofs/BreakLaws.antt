@@ -7,17 +7,20 @@ use mathlib.Core.Bool.{Bool, true, false, cond}
 use mathlib.Core.List.{List, [], _∷_, _++_, map, map-append, append-assoc, append-nil}
 use native.Mathlib.Omega.{arith}
 use lib.Dec.{eqb, lit≤}
-use lib.ListN.{length, length-append, drop, take-append-drop}
+use lib.ListN.{length, length-append, length-replicate, drop, take-append-drop}
+use Rattle.little.specs.Runs.{zeros}
 use Rattle.sfc.specs.answer.Numbers.{Check, numberOf}
 use Rattle.sfc.specs.answer.Places.{number, place}
 use Rattle.sfc.specs.format.Chunk.{indexOf, chunkChecks}
 use Rattle.sfc.specs.session.Tallies.{total, tallyFull}
-use Rattle.sfc.specs.session.Session.{Session, mark, sessionWrong, markChecks, welcomed, verdictOf, after, offered}
+use Rattle.sfc.specs.session.Session.{Session, mark, sessionWrong, markChecks, welcomed, verdictOf, after, spotOf}
 use Rattle.sfc.specs.session.History.{afterAll, verdicts}
+use Rattle.sfc.specs.session.Offer.{Logged, logged, offered}
 use Rattle.sfc.specs.session.SessionTheorems.{count}
+use Rattle.sfc.specs.give.TurnTheorems.{OwnOffer}
 use Rattle.sfc_walk.specs.Walk.{chunksOf, lengthOfAll}
 use Rattle.sfc_walk.specs.WalkTheorems.{concat}
-use Rattle.sfc_listing.specs.Listing.{brokenText, verdictLine, refusedLines, stopIn, toldIn}
+use Rattle.sfc_listing.specs.Listing.{brokenText, verdictLine, brokeAt, refusedLines, stopIn, toldIn}
 use Rattle.sfc_listing.specs.ListingTheorems.{isRefused}
 use Rattle.sfc_listing.specs.RefusedLines.{breakText, breakOf, breaksIn}
 use Rattle.sfc.specs.declared.format.header.Head.{Head}
@@ -32,6 +35,7 @@ use Rattle.sfc.specs.declared.session.offer.Verdict.the-variants.{Fresh, Repeat
 use Rattle.sfc.proofs.Laws.{checkLaws, offerLaws}
 use Rattle.sfc.proofs.Theorems.{one-offer, place-table}
 use Rattle.sfc_walk.proofs.WalkTheorems.{walk-theorems}
+use Rattle.sfc_listing.proofs.TellLaws.{none-rebuilt}
 use Rattle.sfc_listing.proofs.LastLine.{verdictTexts, refusedTexts}
 
 -- ---- no line where nothing is refused
@@ -43,11 +47,10 @@ one-taken at (Repeat i p) s e = refl
 one-taken at (Refused r) s e = absurd (omega arith)
 
 pub none-told : (h : Head) (x : Session) (at : ℕ) (cs : List (List ℕ)) → count isRefused (verdicts h x cs) ≡ 0 → refusedLines h x at cs ≡ []
-unfolding refusedLines verdicts count offered
+unfolding refusedLines verdicts count
 none-told h x at [] e = refl
 none-told h x at (c ∷ cs) e =
-    let o = offered h x c in
-    ap₂ (λ (u v : List ℕ). u ++ v) (one-taken at (o .verdict) (o .spot) (omega arith)) (none-told h (after h x c) (at + length c) cs (omega arith))
+    ap₂ (λ (u v : List ℕ). u ++ v) (one-taken at (verdictOf h x c) (brokeAt h x c) (omega arith)) (none-told h (after h x c) (at + length c) cs (omega arith))
 
 -- the offers are the chunks alone where nothing is left after them
 pub told-chunks : (h : Head) (b : List ℕ) → drop (lengthOfAll (chunksOf h b)) b ≡ [] → toldIn h b ≡ chunksOf h b
@@ -95,43 +98,53 @@ module _ (h : Head) (x : Session) (c : List ℕ) (lent : sessionWrong h x ≡ fa
       welcome true = refl
       welcome false = refl
 
-  is-verdict : offered h x c .verdict ≡ verdictOf h x c
+  -- what the call answers with nothing rebuilt beside the session
+  abbrev beside : Logged
+  beside = logged x (zeros (h .m * h .s)) 0
+
+  own : OwnOffer h beside c
+  own = offerLaws .own-offer h beside c (none-rebuilt h (zeros (h .m * h .s)) (length-replicate {A = ℕ} (h .m * h .s) 0))
+
+  is-verdict : offered h beside c .verdict ≡ verdictOf h x c
   unfolding offered
-  is-verdict = refl
+  is-verdict = own .verdict
+
+  is-spot : offered h beside c .spot ≡ brokeAt h x c
+  unfolding offered
+  is-spot = ap (spotOf h c) (own .verdict)
 
   -- so the offer says where
-  pub has-place : (r : Reason) → verdictOf h x c ≡ Refused r → (p : BytePlace) × (offered h x c .spot ≡ At p)
-  has-place r e = go (offered h x c .spot) refl
+  pub has-place : (r : Reason) → verdictOf h x c ≡ Refused r → (p : BytePlace) × (brokeAt h x c ≡ At p)
+  has-place r e = go (brokeAt h x c) refl
     where
-      go : (s : Spot) → offered h x c .spot ≡ s → (p : BytePlace) × (offered h x c .spot ≡ At p)
+      go : (s : Spot) → brokeAt h x c ≡ s → (p : BytePlace) × (brokeAt h x c ≡ At p)
       go (At p) es = (p, es)
       go Nowhere es =
           let n = number-low r e in
-          absurd (⊎-elim (λ k. omega arith) (λ k. omega arith) (place-table .no-place h c r Nowhere (inr (x, is-verdict ∙ e, es)) .0 refl))
+          absurd (⊎-elim (λ k. omega arith) (λ k. omega arith) (place-table .no-place h c r Nowhere (inr (beside, is-verdict ∙ e, is-spot ∙ es)) .0 refl))
 
-  placed : (at : ℕ) → verdictTexts at (offered h x c .verdict) (offered h x c .spot) ≡ map breakText (breakOf at (offered h x c .verdict) (offered h x c .spot))
+  placed : (at : ℕ) → verdictTexts at (verdictOf h x c) (brokeAt h x c) ≡ map breakText (breakOf at (verdictOf h x c) (brokeAt h x c))
   unfolding verdictTexts breakOf
-  placed at = go (offered h x c .verdict) refl
+  placed at = go (verdictOf h x c) refl
     where
-      go : (v : Verdict) → offered h x c .verdict ≡ v → verdictTexts at v (offered h x c .spot) ≡ map breakText (breakOf at v (offered h x c .spot))
+      go : (v : Verdict) → verdictOf h x c ≡ v → verdictTexts at v (brokeAt h x c) ≡ map breakText (breakOf at v (brokeAt h x c))
       go (Fresh i p) ev = refl
       go (Repeat i p) ev = refl
-      go (Refused r) ev = rw (has-place r (sym is-verdict ∙ ev) .1) refl
+      go (Refused r) ev = rw (has-place r ev .1) refl
 
-  pub one-text : (at : ℕ) (r : Reason) → verdictOf h x c ≡ Refused r → (p : BytePlace) → offered h x c .spot ≡ At p
-      → verdictTexts at (offered h x c .verdict) (offered h x c .spot) ≡ brokenText (numberOf r) (at + p .0) ∷ []
+  pub one-text : (at : ℕ) (r : Reason) → verdictOf h x c ≡ Refused r → (p : BytePlace) → brokeAt h x c ≡ At p
+      → verdictTexts at (verdictOf h x c) (brokeAt h x c) ≡ brokenText (numberOf r) (at + p .0) ∷ []
   unfolding verdictTexts
-  one-text at r e p es = rw (is-verdict, e, es)
+  one-text at r e p es = rw (es, e)
 
 pub all-placed : (h : Head) (x : Session) (at : ℕ) (cs : List (List ℕ)) → sessionWrong h x ≡ false → total (x .tallies) + length cs ≤ 4294967295
     → refusedTexts h x at cs ≡ map breakText (breaksIn h x at cs)
 unfolding refusedTexts breaksIn afterAll
 all-placed h x at [] l s = refl
 all-placed h x at (c ∷ cs) l s =
-    let o = offered h x c in
     ap₂ (λ (u v : List (List ℕ)). u ++ v) (placed h x c l (offerLaws .not-full (x .tallies) (omega arith)) at)
     (all-placed h (after h x c) (at + length c) cs (one-offer .lent-stays h x c l) (omega (arith, offerLaws .total-all h x (c ∷ []))))
-    ∙ sym (map-append breakText (breakOf at (o .verdict) (o .spot)) (breaksIn h (after h x c) (at + length c) cs))
+    ∙ sym (map-append breakText (breakOf at (verdictOf h x c) (brokeAt h x c)) (breaksIn h (after h x c) (at + length c) cs))
 
 -- the texts of offers and of others after them
 pub texts-append : (h : Head) (x : Session) (at : ℕ) (cs ds : List (List ℕ))
@@ -140,7 +153,7 @@ unfolding refusedTexts afterAll lengthOfAll
 texts-append h x at [] ds = let z : at ≡ at + 0 = omega arith in ap (λ (k : ℕ). refusedTexts h x k ds) z
 texts-append h x at (c ∷ cs) ds =
     let z : at + length c + lengthOfAll cs ≡ at + (length c + lengthOfAll cs) = omega arith in
-    let texts : List (List ℕ) = verdictTexts at (offered h x c .verdict) (offered h x c .spot) in
+    let texts : List (List ℕ) = verdictTexts at (verdictOf h x c) (brokeAt h x c) in
     ap (λ (l : List (List ℕ)). texts ++ l)
     (texts-append h (after h x c) (at + length c) cs ds
     ∙ ap (λ (k : ℕ). refusedTexts h (after h x c) (at + length c) cs ++ refusedTexts h (afterAll h (after h x c) cs) k ds) z)

@@ -16,14 +16,14 @@ use Rattle.sfc.specs.format.Header.{lengthField, regionOf, headOf, headerChecks
 use Rattle.sfc.specs.format.Chunk.{chunkLength, measureChecks}
 use Rattle.sfc.specs.session.Marks.{heldCount, barredCount}
 use Rattle.sfc.specs.session.Lent.{marksWrong, lentWrong}
-use Rattle.sfc.specs.session.Session.{Session, blank, sessionWrong, after, offered}
+use Rattle.sfc.specs.session.Session.{Session, blank, sessionWrong, verdictOf, after}
 use Rattle.sfc.specs.session.History.{afterAll}
 use Rattle.sfc.specs.note.Missing.{missing}
 use Rattle.sfc.specs.note.Ranges.{Range, ranges}
 use Rattle.sfc.specs.give.HandOut.{contentChecks}
-use Rattle.sfc_walk.specs.Walk.{chunksIn, chunksOf, lengthOfAll, walkOver}
+use Rattle.sfc_walk.specs.Walk.{chunksIn, chunksOf, lengthOfAll}
 use Rattle.sfc_listing.specs.Text.{text, digits, decimal, hex, line}
-use Rattle.sfc_listing.specs.Listing.{between, sessionIn, refusedText, refusalLine, verdictLine, refusedLine, refusedLines, stopIn, toldIn, uuidLine, shapeLine, countsLine, headText, missingLine, missingLines, refusedWord, lastWord, endText, sessionText, programChecks, listingOf}
+use Rattle.sfc_listing.specs.Listing.{between, sessionAfter, sessionIn, refusedText, refusalLine, verdictLine, brokeAt, refusedLine, refusedLines, stopIn, toldIn, uuidLine, shapeLine, countsLine, headText, missingLine, missingLines, refusedWord, lastWord, endText, sessionText, programChecks, listingOf}
 use Rattle.sfc.specs.declared.format.header.Head.{Head}
 use Rattle.sfc.specs.declared.answer.reason.Reason.{Reason}
 use Rattle.sfc.specs.declared.answer.reason.Checked.the-variants.{Good}
@@ -138,14 +138,14 @@ module _ (h : Head) where
           → 84 * length (refusedLines h (after h x (take (chunkLength b) b)) (at + length (take (chunkLength b) b)) (chunksIn most h (drop (chunkLength b) b))) ≤ 50 * lengthOfAll (chunksIn most h (drop (chunkLength b) b))
           → 84 * length (refusedLines h x at (cond t (take (chunkLength b) b ∷ chunksIn most h (drop (chunkLength b) b)) [])) ≤ 50 * lengthOfAll (cond t (take (chunkLength b) b ∷ chunksIn most h (drop (chunkLength b) b)) [])
       go true e r =
-          let o = offered h x (take (chunkLength b) b) in
-          omega (arith, length-take-le (chunkLength b) b (measureLaws .front-there h b e), verdict-short at (o .verdict) (o .spot), length-append (refusedLine at o) (refusedLines h (after h x (take (chunkLength b) b)) (at + length (take (chunkLength b) b)) (chunksIn most h (drop (chunkLength b) b))))
+          let c : List ℕ = take (chunkLength b) b in
+          omega (arith, length-take-le (chunkLength b) b (measureLaws .front-there h b e), verdict-short at (verdictOf h x c) (brokeAt h x c), length-append (refusedLine h x at c) (refusedLines h (after h x (take (chunkLength b) b)) (at + length (take (chunkLength b) b)) (chunksIn most h (drop (chunkLength b) b))))
       go false e r = omega arith
 
   stop-short : (x : Session) (at : ℕ) (c : List ℕ) → length (refusedLines h x at (stopIn c)) ≤ 50
   unfolding stopIn refusedLines
   stop-short x at [] = omega arith
-  stop-short x at (a ∷ c) = let o = offered h x (a ∷ c) in omega (arith, verdict-short at (o .verdict) (o .spot), length-append (refusedLine at o) [])
+  stop-short x at (a ∷ c) = omega (arith, verdict-short at (verdictOf h x (a ∷ c)) (brokeAt h x (a ∷ c)), length-append (refusedLine h x at (a ∷ c)) [])
 
   told-short : (x : Session) (at : ℕ) (b : List ℕ) → length b ≤ 65536 → length (refusedLines h x at (toldIn h b)) ≤ 39060
   unfolding toldIn
@@ -199,14 +199,14 @@ module _ (h : Head) (x : Session) (right : sessionWrong h x ≡ false) where
       (both counts (missingLines rs) 54 25600 (counts-short (heldCount (x .marks)) (barredCount (x .marks))) (omega (arith, missing-short rs, few-ranges)))
       (ended (lastWord h x) 12 (word-short h x))
 
-session-short : (h : Head) (at : ℕ) (b : List ℕ) → length (h .uuid) ≤ 16 → length b ≤ 65536 → sessionWrong h (walkOver h (blank h) b .session) ≡ false
+session-short : (h : Head) (at : ℕ) (b : List ℕ) → length (h .uuid) ≤ 16 → length b ≤ 65536 → sessionWrong h (sessionAfter h b) ≡ false
     → length (sessionText h at b) ≤ 64880
 unfolding sessionText
 session-short h at b u l right =
     let first : List ℕ = headText (h .uuid) (h .n) (h .m) (h .size) (h .s) in
     let told : List ℕ = refusedLines h (blank h) at (toldIn h b) in
-    both (first ++ told) (endText h (walkOver h (blank h) b .session)) 39213 25667
-    (both first told 153 39060 (head-short (h .uuid) (h .n) (h .m) (h .size) (h .s) u) (told-short h (blank h) at b l)) (end-short h (walkOver h (blank h) b .session) right)
+    both (first ++ told) (endText h (sessionAfter h b)) 39213 25667
+    (both first told 153 39060 (head-short (h .uuid) (h .n) (h .m) (h .size) (h .s) u) (told-short h (blank h) at b l)) (end-short h (sessionAfter h b) right)
 
 part-short : (xs : List ℕ) (at n : ℕ) → length (part xs at n) ≤ length xs
 part-short xs at n = omega (arith, length-take n (drop at xs), length-drop at xs)
@@ -221,7 +221,7 @@ module _ (f : List ℕ) where
       checkLaws .front-good (headerChecks f) limit (checkLaws .all-passed (headerChecks f ++ limit) (checkLaws .passed (programChecks head f) e .1))
 
   pub session-right : verdict (headerChecks f) ≡ Good → sessionWrong head (sessionIn head f) ≡ false
-  unfolding sessionIn walkOver
+  unfolding sessionIn
   session-right g = offerLaws .stays-lent head (blank head) (chunksOf head (between f)) (lentLaws .blank-right head (lentLaws .accepted-shape f head (good-read f g)))
 
   in-file : length (between f) ≤ length f

@@ -1,11 +1,11 @@
--- The lines of a listing, none of which has a line feed inside, and what the last one says of the hand-out. Assumes nothing.
+-- The lines of a listing, none of which has a line feed inside, and what the last one says of turn and release. Assumes nothing.
 use Prim.Native.Nat.{ℕ, zero, suc, _+_, _/_, _%_, _≤_}
 use mathlib.Core.Path.{_≡_, refl, sym, ap, _∙_}
 use mathlib.Core.Logic.{_↔_}
 use mathlib.Core.Bool.{Bool, true, false, cond}
 use mathlib.Core.List.{List, [], _∷_, _++_, append-assoc, append-nil}
 use native.Mathlib.Omega.{arith}
-use borrow.Author.Tests.{ne-eqb, le-ltb}
+use borrow.Author.Tests.{ne-eqb}
 use lib.Dec.{ltb, eqb}
 use lib.ListN.{length, length-append}
 use Rattle.little.specs.Runs.{any}
@@ -14,15 +14,15 @@ use Rattle.sfc.specs.answer.Numbers.{Check, numberOf, reasonOf}
 use Rattle.sfc.specs.answer.Places.{place}
 use Rattle.sfc.specs.session.Marks.{heldCount, barredCount}
 use Rattle.sfc.specs.session.Lent.{Lent, rebuildWrong}
-use Rattle.sfc.specs.session.Session.{Session, blank, after, offered}
+use Rattle.sfc.specs.session.Session.{Session, blank, verdictOf, after}
 use Rattle.sfc.specs.session.History.{verdicts}
 use Rattle.sfc.specs.session.SessionTheorems.{count}
 use Rattle.sfc.specs.note.Missing.{missing}
 use Rattle.sfc.specs.note.Ranges.{Range, ranges}
-use Rattle.sfc.specs.give.HandOut.{contentChecks, handOut}
-use Rattle.sfc_walk.specs.Walk.{walkOver}
+use Rattle.sfc.specs.give.HandOut.{contentChecks}
+use Rattle.sfc.specs.give.Turns.{Turning, turn, release}
 use Rattle.sfc_listing.specs.Text.{text, digits, decimal, hexDigit, hex, line}
-use Rattle.sfc_listing.specs.Listing.{refusedText, brokenText, refusalLine, verdictLine, refusedLine, refusedLines, toldIn, headText, missingLines, refusedWord, lastWord, endText, sessionText}
+use Rattle.sfc_listing.specs.Listing.{sessionAfter, refusedText, brokenText, refusalLine, verdictLine, brokeAt, refusedLine, refusedLines, toldIn, headText, missingLines, refusedWord, lastWord, endText, sessionText}
 use Rattle.sfc_listing.specs.ListingTheorems.{isRefused, longer, linesOf, lastOf, lastLine}
 use Rattle.sfc.specs.declared.format.header.Head.{Head}
 use Rattle.sfc.specs.declared.answer.places.BytePlace.{BytePlace}
@@ -33,6 +33,7 @@ use Rattle.sfc.specs.declared.session.offer.Verdict.{Verdict}
 use Rattle.sfc.specs.declared.session.offer.Verdict.the-variants.{Fresh, Repeat, Refused as NotTaken}
 use Rattle.sfc.specs.declared.give.release.HandedOut.{HandedOut}
 use Rattle.sfc.specs.declared.give.release.HandedOut.the-variants.{Complete, Refused}
+use Rattle.sfc.proofs.Laws.{giveLaws}
 
 -- ---- texts without a line feed
 
@@ -166,7 +167,7 @@ verdictTexts at (NotTaken r) s = refusalText at r s ∷ []
 
 unfoldable pub refusedTexts : Head → Session → ℕ → List (List ℕ) → List (List ℕ)
 refusedTexts h x at [] = []
-refusedTexts h x at (c ∷ cs) = verdictTexts at (offered h x c .verdict) (offered h x c .spot) ++ refusedTexts h (after h x c) (at + length c) cs
+refusedTexts h x at (c ∷ cs) = verdictTexts at (verdictOf h x c) (brokeAt h x c) ++ refusedTexts h (after h x c) (at + length c) cs
 
 refusal-plain : (at : ℕ) (r : Reason) (s : Spot) → Plain (refusalText at r s)
 unfolding text any
@@ -188,11 +189,10 @@ refused-lines : (h : Head) (x : Session) (at : ℕ) (cs : List (List ℕ)) (t : 
 unfolding refusedLines refusedTexts
 refused-lines h x at [] t = refl
 refused-lines h x at (c ∷ cs) t =
-    let o = offered h x c in
     let rest : List ℕ = refusedLines h (after h x c) (at + length c) cs in
-    let texts : List (List ℕ) = verdictTexts at (o .verdict) (o .spot) in
-    ap linesOf (append-assoc (refusedLine at o) rest t)
-    ∙ verdict-lines at (o .verdict) (o .spot) (rest ++ t)
+    let texts : List (List ℕ) = verdictTexts at (verdictOf h x c) (brokeAt h x c) in
+    ap linesOf (append-assoc (refusedLine h x at c) rest t)
+    ∙ verdict-lines at (verdictOf h x c) (brokeAt h x c) (rest ++ t)
     ∙ ap (λ (ls : List (List ℕ)). texts ++ ls) (refused-lines h (after h x c) (at + length c) cs t)
     ∙ sym (append-assoc texts (refusedTexts h (after h x c) (at + length c) cs) (linesOf t))
 
@@ -204,18 +204,17 @@ verdict-count at (NotTaken r) s = refl
 
 -- one for each refusal
 pub texts-count : (h : Head) (x : Session) (at : ℕ) (cs : List (List ℕ)) → length (refusedTexts h x at cs) ≡ count isRefused (verdicts h x cs)
-unfolding refusedTexts verdicts count offered
+unfolding refusedTexts verdicts count
 texts-count h x at [] = refl
 texts-count h x at (c ∷ cs) =
-    let o = offered h x c in
     omega (
       arith,
-      length-append (verdictTexts at (o .verdict) (o .spot)) (refusedTexts h (after h x c) (at + length c) cs),
-      verdict-count at (o .verdict) (o .spot),
+      length-append (verdictTexts at (verdictOf h x c) (brokeAt h x c)) (refusedTexts h (after h x c) (at + length c) cs),
+      verdict-count at (verdictOf h x c) (brokeAt h x c),
       texts-count h (after h x c) (at + length c) cs,
     )
 
--- ---- the last word, and the hand-out's answer, by the two tests of the content
+-- ---- the last word, and the release's answer, by the two tests of the content
 
 wordBy : Bool → Bool → List ℕ
 wordBy few differs = cond few (text "incomplete") (cond differs (text "hash differs") (text "complete"))
@@ -287,18 +286,24 @@ module _ (h : Head) (x : Session) where
       ∙ ap (λ (ls : List (List ℕ)). counts ∷ ls) (range-lines rs (line w) ∙ ap (λ (ls : List (List ℕ)). rangeTexts rs ++ ls) last)
 
   module _ (l : Lent) (right : rebuildWrong h (x .store) (x .marks) l ≡ false) (room : h .size ≤ length (l .output)) where
-    answer-is : handOut h (x .store) (x .marks) l .answer ≡ answerBy (place (h .size)) few other
-    unfolding handOut answerBy
-    answer-is = rw (right, le-ltb (length (l .output)) (h .size) room)
+    abbrev whole : Turning
+    whole = turn h (x .store) (x .marks) (l .scratch) (l .numbers) 0 (h .s / 2)
 
-    pub word-exactly : Exactly (lastWord h x) (handOut h (x .store) (x .marks) l .answer) (place (h .size))
+    abbrev answer : HandedOut
+    answer = release h (x .store) (x .marks) (whole .scratch) (whole .finished) (l .output) .answer
+
+    answer-is : answer ≡ answerBy (place (h .size)) few other
+    unfolding answerBy
+    answer-is = giveLaws .whole-turn h (x .store) (x .marks) (l .scratch) (l .numbers) (l .output) right room whole refl
+
+    pub word-exactly : Exactly (lastWord h x) answer (place (h .size))
     word-exactly = rw (word-is, answer-is) (exactly (place (h .size)) few other)
 
 -- ---- all lines
 
 module _ (h : Head) (at : ℕ) (b : List ℕ) where
   abbrev session : Session
-  session = walkOver h (blank h) b .session
+  session = sessionAfter h b
 
   abbrev told : List (List ℕ)
   told = refusedTexts h (blank h) at (toldIn h b)

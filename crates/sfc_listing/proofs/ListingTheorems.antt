@@ -1,5 +1,5 @@
 -- The theorems of the listing (specs/ListingTheorems): its session is that of an accepted header, short of 43, and its last line
--- is the hand-out's. Assumes nothing.
+-- is what a release says. Assumes nothing.
 use Prim.Native.Nat.{ℕ, _+_, _-_, _*_, _≤_}
 use mathlib.Core.Path.{_≡_, refl, sym, ap, _∙_}
 use mathlib.Core.Logic.{_↔_}
@@ -20,7 +20,6 @@ use Rattle.sfc.specs.session.History.{afterAll, verdicts}
 use Rattle.sfc.specs.session.SessionTheorems.{count}
 use Rattle.sfc.specs.note.Missing.{missing}
 use Rattle.sfc.specs.note.Ranges.{ranges}
-use Rattle.sfc_walk.specs.Walk.{walkOver}
 use Rattle.sfc_walk.specs.WalkTheorems.{steppedOver, each}
 use Rattle.sfc_listing.specs.Listing.{between, sessionIn, lastWord, listingOf}
 use Rattle.sfc_listing.specs.ListingTheorems.{headIn, sessionOfFile, Accepted, offersIn, afterOffers, answersIn, isRefused, RoomIn, handedOut, linesOf, lastLine, ListingTheorems}
@@ -33,7 +32,7 @@ use Rattle.sfc_listing.proofs.FitLaws.{header-good, session-right, few-
 use Rattle.sfc_listing.proofs.LastLine.{Exactly, session-count, session-last, word-exactly}
 
 session-of-offers : (f : List ℕ) → sessionOfFile f ≡ afterAll (headIn f) (blank (headIn f)) (offersIn f)
-unfolding sessionIn walkOver
+unfolding sessionIn
 session-of-offers f = refl
 
 -- what something is equal to exactly if Z holds, its equal is too
@@ -72,7 +71,7 @@ module _ (f : List ℕ) (a : Accepted f) where
   offers-answered = walk-theorems .chunks-answered (headIn f) (blank (headIn f)) (between f) (lentLaws .blank-right (headIn f) shape) (omega (arith, few-bytes f a))
 
   offers-end : (r : Reason) × (verdictOf (headIn f) (sessionOfFile f) (afterOffers f) ≡ Refused r) × (30 ≤ numberOf r) × (numberOf r ≤ 32)
-  unfolding sum sessionIn walkOver
+  unfolding sum sessionIn
   offers-end = walk-theorems .end-answered (headIn f) (blank (headIn f)) (between f) (lentLaws .blank-right (headIn f) shape) (omega (arith, few-bytes f a))
 
   -- ---- its lines

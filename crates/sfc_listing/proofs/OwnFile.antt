@@ -1,6 +1,6 @@
 -- The listing of a file that our writer wrote says complete (specs/OwnFile): the chunks that the program finds in it are the
 -- file's own, in order, and after them every block is held. Assumes nothing.
-use Prim.Native.Nat.{ℕ, zero, suc, _+_, _-_, _*_, _≤_, _<_}
+use Prim.Native.Nat.{ℕ, zero, suc, _+_, _-_, _*_, _/_, _≤_, _<_}
 use mathlib.Core.Path.{_≡_, refl, sym, ap, ap₂, _∙_}
 use mathlib.Core.Bool.{Bool, true, false, cond}
 use mathlib.Core.List.{List, [], _∷_, _++_, map, append-assoc, append-nil}
@@ -18,18 +18,21 @@ use Rattle.sfc.specs.format.Header.{lengthField, acceptedHeader}
 use Rattle.sfc.specs.format.Chunk.{lengthChecks}
 use Rattle.sfc.specs.answer.Places.{number, place}
 use Rattle.sfc.specs.session.Marks.{isHeld, heldCount, barredCount}
+use Rattle.sfc.specs.session.Tallies.{sum}
 use Rattle.sfc.specs.session.Session.{Session, blank}
 use Rattle.sfc.specs.session.History.{afterAll}
 use Rattle.sfc.specs.session.SessionTheorems.{count as countOf}
 use Rattle.sfc.specs.note.Missing.{unheldFrom, missing}
 use Rattle.sfc.specs.note.Ranges.{ranges}
-use Rattle.sfc.specs.give.HandOut.{contentChecks, handOutChecks, handOut}
-use Rattle.sfc.specs.session.Lent.{Lent, shapeWrong}
+use Rattle.sfc.specs.give.HandOut.{contentChecks}
+use Rattle.sfc.specs.give.Turns.{turn, Releasing, acted, actedAll}
+use Rattle.sfc.specs.give.TurnTheorems.{turnsOf}
+use Rattle.sfc.specs.session.Lent.{shapeWrong, lentOf, rebuildWrong}
 use Rattle.sfc.specs.writing.Writer.{Input, size, blocks, body, chunk, fileOf, headFor}
-use Rattle.sfc.specs.demand.Demand2.{AllBelow, different, answers, received, Lawful, RoomFor}
-use Rattle.sfc_walk.specs.Walk.{chunksIn, chunksOf, lengthOfAll, walkOver}
+use Rattle.sfc.specs.demand.Demand2.{AllBelow, different, answers, received, Lawful}
+use Rattle.sfc_walk.specs.Walk.{chunksIn, chunksOf, lengthOfAll}
 use Rattle.sfc_listing.specs.Text.{text, line}
-use Rattle.sfc_listing.specs.Listing.{between, refusedLines, toldIn, countsLine, headText, missingLines, refusedWord, lastWord, endText, sessionText, listingOf}
+use Rattle.sfc_listing.specs.Listing.{between, sessionAfter, refusedLines, toldIn, countsLine, headText, missingLines, refusedWord, lastWord, endText, sessionText, listingOf}
 use Rattle.sfc_listing.specs.Steps.{acceptedText}
 use Rattle.sfc_listing.specs.ListingTheorems.{isRefused}
 use Rattle.sfc_listing.specs.OwnFile.{OwnFile}
@@ -37,7 +40,7 @@ use Rattle.sfc.specs.declared.format.header.Head.{Head}
 use Rattle.sfc.specs.declared.answer.reason.Checked.the-variants.{Good}
 use Rattle.sfc.specs.declared.session.offer.Verdict.the-variants.{Fresh, Repeat}
 use Rattle.sfc.specs.declared.give.release.HandedOut.the-variants.{Complete, Refused}
-use Rattle.sfc.proofs.Laws.{checkLaws, lentLaws, writtenLaws, countLaws}
+use Rattle.sfc.proofs.Laws.{checkLaws, lentLaws, offerLaws, giveLaws, writtenLaws, countLaws}
 use Rattle.sfc.proofs.Theorems.{demand2}
 use Rattle.sfc_walk.proofs.WalkTheorems.{walk-theorems}
 use Rattle.sfc_listing.proofs.FileLaws.{listing-accepted}
@@ -193,8 +196,7 @@ module _ (w : Input) (l : Lawful w) where
 
   -- ---- the session
 
-  is-received : walkOver (headFor w) (blank (headFor w)) chunks .session ≡ received w all
-  unfolding walkOver
+  is-received : sessionAfter (headFor w) chunks ≡ received w all
   is-received = ap (afterAll (headFor w) (blank (headFor w))) all-chunks
 
   few : length all ≤ 4294967295
@@ -212,21 +214,35 @@ module _ (w : Input) (l : Lawful w) where
       let h : j < count = omega (arith, n) in
       k .1 j h ∙ ap (λ (b : Bool). cond b 1 0) (up-has 0 count j (omega arith) (omega arith)) ∙ sym (getD-replicate count j 1 0 h))
 
-  -- with any memory of the right size the hand-out is complete, so that no check of the content refuses
+  -- memory of the right size
+  abbrev scratch : List ℕ
+  scratch = zeros (w .m * w .s)
+
+  abbrev out : List ℕ
+  out = zeros (size w)
+
+  scratch-long : length scratch ≡ w .m * w .s
+  scratch-long = length-replicate {A = ℕ} (w .m * w .s) 0
+
+  lent-right : rebuildWrong (headFor w) (received w all .store) (received w all .marks) (lentOf scratch (zeros 1024) out) ≡ false
+  unfolding rebuildWrong
+  lent-right =
+      rw (
+        offerLaws .stays-lent (headFor w) (blank (headFor w)) (map (chunk w) all) (lentLaws .blank-right (headFor w) (writtenLaws .shape-written w l)),
+        eq-eqb (length scratch) (w .m * w .s) scratch-long,
+      )
+
+  -- in it a turn for all columns and a release are complete, so that no check of the content refuses
   content-good : verdict (contentChecks (headFor w) (received w all .store) (received w all .marks)) ≡ Good
-  unfolding handOut
+  unfolding actedAll acted turnsOf sum
   content-good =
       let s : List ℕ = received w all .store in
       let m : List ℕ = received w all .marks in
-      let d : Lent = record { scratch = zeros (w .m * w .s); numbers = zeros 1024; output = zeros (size w) } in
-      let room : RoomFor w d = record {
-        scratch-long = length-replicate {A = ℕ} (w .m * w .s) 0;
-        numbers-long = length-replicate {A = ℕ} 1024 0;
-        output-long = omega (arith, length-replicate {A = ℕ} (size w) 0);
-      } in
-      let e = demand2 .round-trip w l all below few (omega (arith, up-different count)) d room in
-      let t = checkLaws .tells handOutSeen Refused (Complete (place (size w))) (λ q. refl) refl (handOutChecks (headFor w) s m d) Good (ap (λ r. handOutSeen (r .answer)) e) in
-      checkLaws .all-passed (contentChecks (headFor w) s m) (checkLaws .passed (handOutChecks (headFor w) s m d) t .1 .1)
+      let room : size w ≤ length out = omega (arith, length-replicate {A = ℕ} (size w) 0) in
+      let e = demand2 .round-trip w l all below few (omega (arith, up-different count)) scratch (w .s / 2 ∷ []) out scratch-long (omega arith) room in
+      let t = giveLaws .whole-turn (headFor w) s m scratch (zeros 1024) out lent-right room (turn (headFor w) s m scratch (zeros 1024) 0 (w .s / 2)) refl in
+      checkLaws .tells handOutSeen Refused (Complete (place (size w))) (λ q. refl) refl (contentChecks (headFor w) s m) Good
+      (ap handOutSeen (sym t ∙ ap (λ (r : Releasing). r .answer) e))
 
   -- ---- no chunk is refused, and nothing is left after them
 
@@ -261,7 +277,7 @@ module _ (w : Input) (l : Lawful w) where
   unfolding sessionText
   session-said at =
       let first : List ℕ = headText (w .uuid) (blocks w) (w .m) (size w) (w .s) in
-      let e : walkOver (headFor w) (blank (headFor w)) chunks .session ≡ received w all = is-received in
+      let e : sessionAfter (headFor w) chunks ≡ received w all = is-received in
       rw (none-refused at, e, append-nil first, all-said (headFor w) (received w all) all-marks content-good)
       (sym (append-assoc first (countsLine count 0) (line (text "complete"))))
 

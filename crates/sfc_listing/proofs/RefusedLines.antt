@@ -9,11 +9,11 @@ use lib.Seq.{take-at, getD-at}
 use Rattle.sfc.specs.answer.Numbers.{numberOf}
 use Rattle.sfc.specs.format.Header.{lengthField}
 use Rattle.sfc.specs.session.Tallies.{sum, tallyFull}
-use Rattle.sfc.specs.session.Session.{Session, blank, sessionWrong, verdictOf, after, offered}
+use Rattle.sfc.specs.session.Session.{Session, blank, sessionWrong, verdictOf, after}
 use Rattle.sfc.specs.session.History.{afterAll, verdicts}
 use Rattle.sfc.specs.session.SessionTheorems.{count}
 use Rattle.sfc_walk.specs.Walk.{lengthOfAll}
-use Rattle.sfc_listing.specs.Listing.{between, sessionIn, brokenText, refusedLines, toldIn, headText, endText, sessionText, listingOf}
+use Rattle.sfc_listing.specs.Listing.{between, sessionIn, brokenText, brokeAt, refusedLines, toldIn, headText, endText, sessionText, listingOf}
 use Rattle.sfc_listing.specs.ListingTheorems.{headIn, sessionOfFile, Accepted, offersIn, afterOffers, answersIn, isRefused, linesOf}
 use Rattle.sfc_listing.specs.RefusedLines.{breakText, breaksOf, RefusedLines}
 use Rattle.sfc.specs.declared.format.header.Head.{Head}
@@ -69,7 +69,7 @@ module _ (f : List ℕ) (a : Accepted f) where
         (omega (arith, offerLaws .total-all (headIn f) (blank (headIn f)) cs, ap length et, length-append cs (c ∷ ds), told-few (headIn f) (between f), few-bytes f a))
 
     -- the lines, cut where the offer's own is
-    lines-cut : (p : BytePlace) → verdictOf (headIn f) before c ≡ Refused r → offered (headIn f) before c .spot ≡ At p
+    lines-cut : (p : BytePlace) → verdictOf (headIn f) before c ≡ Refused r → brokeAt (headIn f) before c ≡ At p
         → getD (linesOf (listingOf f)) (2 + count isRefused (verdicts (headIn f) (blank (headIn f)) cs)) [] ≡ brokenText (numberOf r) (own + p .0)
     unfolding refusedTexts
     lines-cut p ev ep =
@@ -83,7 +83,7 @@ module _ (f : List ℕ) (a : Accepted f) where
         ∙ text-at _ first _ _ _ _ t (texts-count h (blank h) (lengthField f + 12) cs)
 
     each-told : verdictOf (headIn f) before c ≡ Refused r
-        → (p : BytePlace) × (offered (headIn f) before c .spot ≡ At p)
+        → (p : BytePlace) × (brokeAt (headIn f) before c ≡ At p)
         × (getD (linesOf (listingOf f)) (2 + count isRefused (verdicts (headIn f) (blank (headIn f)) cs)) [] ≡ brokenText (numberOf r) (own + p .0))
     each-told ev =
         let q = has-place (headIn f) before c (offerLaws .stays-lent (headIn f) (blank (headIn f)) cs blank-right) few-before r ev in

@@ -1,13 +1,12 @@
 -- What a session's listing says at its end: its counts, its missing ranges, its last word; that the memory is as long as the calls
 -- want it; and all lines together. Assumes nothing.
-use Prim.Native.Nat.{ℕ, _+_, _*_, _%_, _≤_}
+use Prim.Native.Nat.{ℕ, _+_, _*_, _/_, _%_, _≤_}
 use mathlib.Core.Path.{_≡_, refl, sym, ap, _∙_, subst}
 use mathlib.Core.Bool.{false}
 use mathlib.Core.List.{List}
 use native.Mathlib.Omega.{arith}
 use native.Mathlib.Nat.{mul-le-mul}
-use borrow.Author.Tests.{eq-eqb, ne-eqb, le-ltb}
-use lib.Dec.{ltb}
+use borrow.Author.Tests.{eq-eqb, ne-eqb}
 use lib.ListN.{length, take, drop}
 use lib.Seq.{take-at}
 use Rattle.little.specs.Parts.{put}
@@ -15,15 +14,16 @@ use Rattle.little.proofs.Laws.{testLaws}
 use Rattle.sfc.specs.answer.Numbers.{Answered, checked, verdict, numberOf}
 use Rattle.sfc.specs.answer.Places.{place}
 use Rattle.sfc.specs.session.Marks.{heldCount, barredCount}
-use Rattle.sfc.specs.session.Lent.{marksWrong, lentWrong, Lent, lentOf, rebuildWrong, countMarks}
+use Rattle.sfc.specs.session.Lent.{marksWrong, lentWrong, lentOf, rebuildWrong, countMarks}
 use Rattle.sfc.specs.session.Tallies.{noTallies}
 use Rattle.sfc.specs.session.Session.{Session, sessionOf, blank, sessionWrong}
 use Rattle.sfc.specs.note.Missing.{missing}
 use Rattle.sfc.specs.note.Ranges.{ranges, boundsFor, listRanges}
-use Rattle.sfc.specs.give.HandOut.{Rebuilding, contentChecks, handOut}
-use Rattle.sfc_walk.specs.Walk.{chunksOf, walkOver}
+use Rattle.sfc.specs.give.HandOut.{contentChecks}
+use Rattle.sfc.specs.give.Turns.{Turning, turn, Releasing, releasingOf, release}
+use Rattle.sfc_walk.specs.Walk.{chunksOf}
 use Rattle.sfc_listing.specs.Text.{text}
-use Rattle.sfc_listing.specs.Listing.{Desk, deskOf, refusedWord, lastWord, headText, endText, sessionText}
+use Rattle.sfc_listing.specs.Listing.{sessionAfter, Desk, deskOf, refusedWord, lastWord, headText, endText, sessionText}
 use Rattle.sfc_listing.specs.Lines.{wordOf, endLines, endRoom, Appended, Printed}
 use Rattle.sfc_listing.specs.Steps.{Ready, toldRoom, Tellable, OffersTold}
 use Rattle.sfc.specs.declared.format.header.Head.{Head}
@@ -39,7 +39,7 @@ use Rattle.sfc.specs.declared.give.release.HandedOut.{HandedOut}
 use Rattle.sfc.specs.declared.give.release.HandedOut.the-variants.{Complete, Refused as NotHandedOut}
 use Rattle.sfc_listing.specs.declared.lines.LastWord.{LastWord}
 use Rattle.sfc_listing.specs.declared.lines.LastWord.the-variants.{Complete as Whole, HashDiffers, Incomplete}
-use Rattle.sfc.proofs.Laws.{checkLaws, lentLaws, offerLaws}
+use Rattle.sfc.proofs.Laws.{checkLaws, lentLaws, offerLaws, giveLaws}
 use Rattle.sfc.proofs.Theorems.{ranges-few}
 use Rattle.sfc_listing.proofs.LineLaws.{bounds-lines, joined, appended-long, front}
 
@@ -87,13 +87,12 @@ abbrev pub handOutSeen : HandedOut → Checked
 handOutSeen (Complete p) = Good
 handOutSeen (NotHandedOut r) = Refused r
 
-module _ (h : Head) (store marks : List ℕ) (l : Lent) (right : rebuildWrong h store marks l ≡ false) (room : h .size ≤ length (l .output)) (answer : HandedOut) (after : Lent)
-    (e : _≡_ {A = Rebuilding HandedOut} (record { answer = answer; lent = after }) (handOut h store marks l)) where
+-- the answer of a release after a turn for all columns
+module _ (h : Head) (store marks scratch numbers out : List ℕ) (right : rebuildWrong h store marks (lentOf scratch numbers out) ≡ false) (room : h .size ≤ length out)
+    (z : Turning) (turned : z ≡ turn h store marks scratch numbers 0 (h .s / 2)) (answer : HandedOut) (finished : ℕ) (left given : List ℕ)
+    (e : releasingOf answer finished left given ≡ release h store marks (z .scratch) (z .finished) out) where
   answer-is : answer ≡ checked (contentChecks h store marks) NotHandedOut (Complete (place (h .size)))
-  unfolding handOut
-  answer-is =
-      let f : ltb (length (l .output)) (h .size) ≡ false = le-ltb (length (l .output)) (h .size) room in
-      rw (right, f) at (ap (λ (x : Rebuilding HandedOut). x .answer) e)
+  answer-is = ap (λ (x : Releasing). x .answer) e ∙ giveLaws .whole-turn h store marks scratch numbers out right room z turned
 
   told : (v : Checked) → handOutSeen answer ≡ v → verdict (contentChecks h store marks) ≡ v
   told v f = checkLaws .tells handOutSeen NotHandedOut (Complete (place (h .size))) (λ q. refl) refl (contentChecks h store marks) v (ap handOutSeen (sym answer-is) ∙ f)
@@ -135,17 +134,16 @@ module _ (h : Head) (d : Desk) (y : Ready h d) where
         omega (arith, lentLaws .wanted-holds (h .size) (h .s) (omega (arith, r .shape .s-least)) .1, ap (λ (x : ℕ). x * h .s) (r .shape .wanted), y .few)
 
   -- store and marks are those that the chunks in b leave
-  module _ (b store marks : List ℕ) (es : store ≡ walkOver h (blank h) b .session .store) (em : marks ≡ walkOver h (blank h) b .session .marks) where
+  module _ (b store marks : List ℕ) (es : store ≡ sessionAfter h b .store) (em : marks ≡ sessionAfter h b .marks) where
     abbrev whole : Session
-    whole = walkOver h (blank h) b .session
+    whole = sessionAfter h b
 
     whole-lent : sessionWrong h whole ≡ false
-    unfolding walkOver
     whole-lent = offerLaws .stays-lent h (blank h) (chunksOf h b) (lentLaws .blank-right h (y .shape))
 
-    pub ready-walked : Ready h (deskOf store marks (d .scratch) (d .numbers) (d .content) (d .bounds))
-        × (lentWrong (h .size) (h .n) (h .m) (h .s) store marks ≡ false)
-    ready-walked =
+    pub ready-walked : (scratch : List ℕ) → length scratch ≡ length (d .scratch)
+        → Ready h (deskOf store marks scratch (d .numbers) (d .content) (d .bounds)) × (lentWrong (h .size) (h .n) (h .m) (h .s) store marks ≡ false)
+    ready-walked scratch k =
         let l : lentWrong (h .size) (h .n) (h .m) (h .s) store marks ≡ false = rw (es, em) whole-lent in
         let r = lentLaws .right-lent (h .size) (h .n) (h .m) (h .s) store marks l in (
           record {
@@ -153,7 +151,7 @@ module _ (h : Head) (d : Desk) (y : Ready h d) where
             few = y .few;
             store-long = r .store-long;
             marks-long = r .marks-long;
-            scratch-long = y .scratch-long;
+            scratch-long = k ∙ y .scratch-long;
             numbers-long = y .numbers-long;
             content-long = y .content-long;
             bounds-long = y .bounds-long;
@@ -169,11 +167,12 @@ module _ (h : Head) (d : Desk) (y : Ready h d) where
 
 -- the place in the output after the lines before the refused ones, and after those
 pub tellable : (h : Head) (d : Desk) → Ready h d → (b : List ℕ) (from : ℕ) {out head : List ℕ} {start : ℕ} → (from + length b ≤ 65536) × (65536 ≤ length out)
-    → Appended 153 out 0 (headText (h .uuid) (h .n) (h .m) (h .size) (h .s)) start head → Tellable h (d .store) (d .marks) b from head start
+    → Appended 153 out 0 (headText (h .uuid) (h .n) (h .m) (h .size) (h .s)) start head → Tellable h (d .store) (d .marks) (d .scratch) b from head start
 tellable h d y b from {out} f p = record {
   shape = y .shape;
   store-long = y .store-long;
   marks-long = y .marks-long;
+  scratch-long = y .scratch-long;
   near = f .0;
   room = omega (arith, f .1, p .place, p .short, appended-long p (omega (arith, f .1)));
 }

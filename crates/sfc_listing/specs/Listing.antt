@@ -10,11 +10,12 @@ use Rattle.little.specs.Runs.{zeros}
 use Rattle.sfc.specs.answer.Numbers.{Check, checked, numberOf}
 use Rattle.sfc.specs.format.Header.{lengthField, regionOf, headOf, headerChecks}
 use Rattle.sfc.specs.session.Marks.{heldCount, barredCount}
-use Rattle.sfc.specs.session.Session.{Session, blank, after, Offered, offered}
+use Rattle.sfc.specs.session.Session.{Session, blank, verdictOf, after, spotOf}
+use Rattle.sfc.specs.session.History.{afterAll}
 use Rattle.sfc.specs.note.Missing.{missing}
 use Rattle.sfc.specs.note.Ranges.{Range, ranges}
 use Rattle.sfc.specs.give.HandOut.{contentChecks}
-use Rattle.sfc_walk.specs.Walk.{chunksOf, lengthOfAll, walkOver}
+use Rattle.sfc_walk.specs.Walk.{chunksOf, lengthOfAll}
 use Rattle.sfc_listing.specs.Text.{text, decimal, hex, line}
 use Rattle.sfc.specs.declared.format.header.Head.{Head}
 use Rattle.sfc.specs.declared.answer.reason.Reason.{Reason}
@@ -31,9 +32,13 @@ use Rattle.sfc.specs.declared.answer.written.Written.the-variants.{Bytes, Refus
 unfoldable pub between : List ℕ → List ℕ
 between f = part f (lengthField f + 12) (length f - 64 - (lengthField f + 12))
 
--- the session after all chunks there were offered to a blank one, in order
+-- the session after all chunks in some bytes were offered to a blank one, in order: what is rebuilt beside a session has no say in it
+-- (`walk-session` of the walk's theorems)
+abbrev pub sessionAfter : Head → List ℕ → Session
+sessionAfter h b = afterAll h (blank h) (chunksOf h b)
+
 unfoldable pub sessionIn : Head → List ℕ → Session
-sessionIn h f = walkOver h (blank h) (between f) .session
+sessionIn h f = sessionAfter h (between f)
 
 -- ---- the refused chunks
 
@@ -55,13 +60,17 @@ verdictLine at (Fresh i p) s = []
 verdictLine at (Repeat i p) s = []
 verdictLine at (NotTaken r) s = refusalLine at r s
 
-abbrev pub refusedLine : ℕ → Offered → List ℕ
-refusedLine at o = verdictLine at (o .verdict) (o .spot)
+-- of an offer of c to x: its verdict, and where c broke
+abbrev pub brokeAt : Head → Session → List ℕ → Spot
+brokeAt h x c = spotOf h c (verdictOf h x c)
+
+abbrev pub refusedLine : Head → Session → ℕ → List ℕ → List ℕ
+refusedLine h x at c = verdictLine at (verdictOf h x c) (brokeAt h x c)
 
 -- the lines of offers that stand one after the other in the file, in the order met
 unfoldable pub refusedLines : Head → Session → ℕ → List (List ℕ) → List ℕ
 refusedLines h x at [] = []
-refusedLines h x at (c ∷ cs) = refusedLine at (offered h x c) ++ refusedLines h (after h x c) (at + length c) cs
+refusedLines h x at (c ∷ cs) = refusedLine h x at c ++ refusedLines h (after h x c) (at + length c) cs
 
 -- the bytes after the last chunk are offered too, where there are any: 30, 31 or 32 refuses them, and nothing comes after them
 unfoldable pub stopIn : List ℕ → List (List ℕ)
@@ -99,7 +108,7 @@ missingLines (r ∷ rs) = missingLine r ++ missingLines rs
 unfoldable pub refusedWord : Reason → List ℕ
 refusedWord r = cond (eqb (numberOf r) 51) (text "hash differs") (text "incomplete")
 
--- and of the hand-out
+-- and of what is held: what a turn for all columns and a release come to
 unfoldable pub lastWord : Head → Session → List ℕ
 lastWord h x = checked (contentChecks h (x .store) (x .marks)) refusedWord (text "complete")
 
@@ -115,7 +124,7 @@ unfoldable pub sessionText : Head → ℕ → List ℕ → List ℕ
 sessionText h at b =
     headText (h .uuid) (h .n) (h .m) (h .size) (h .s)
     ++ refusedLines h (blank h) at (toldIn h b)
-    ++ endText h (walkOver h (blank h) b .session)
+    ++ endText h (sessionAfter h b)
 
 -- the file's length first, and the program's limit on the blocks last
 abbrev pub programChecks : Head → List ℕ → List Check

@@ -1,7 +1,7 @@
 -- What is proved of a listing beside demand 1: what an accepted file is made of, how its chunks are answered and where the program
--- stops, and what its last line says of the hand-out (document 01, "Resend note and listing"). Statements, proved in
--- proofs/ListingTheorems.antt.
-use Prim.Native.Nat.{ℕ, _+_, _*_, _≤_}
+-- stops, and what its last line says of turn and release (document 01, "Resend note and listing"; document 02, [8]). Statements,
+-- proved in proofs/ListingTheorems.antt.
+use Prim.Native.Nat.{ℕ, _+_, _*_, _/_, _≤_}
 use mathlib.Core.Path.{_≡_}
 use mathlib.Core.Logic.{_↔_}
 use mathlib.Core.Bool.{Bool, true, false, cond}
@@ -17,7 +17,7 @@ use Rattle.sfc.specs.session.History.{afterAll, verdicts}
 use Rattle.sfc.specs.session.SessionTheorems.{count}
 use Rattle.sfc.specs.note.Missing.{missing}
 use Rattle.sfc.specs.note.Ranges.{ranges}
-use Rattle.sfc.specs.give.HandOut.{handOut}
+use Rattle.sfc.specs.give.Turns.{Turning, turn, release}
 use Rattle.sfc_walk.specs.Walk.{chunksOf, lengthOfAll}
 use Rattle.sfc_walk.specs.WalkTheorems.{steppedOver, each}
 use Rattle.sfc_listing.specs.Text.{text}
@@ -59,14 +59,19 @@ isRefused (Fresh i p) = false
 isRefused (Repeat i p) = false
 isRefused (Refused r) = true
 
--- memory for the hand-out of its session
+-- memory for the rebuild and the release of its session
 pub record RoomIn (f : List ℕ) (l : Lent) : Type 0 where
   pub scratch-long : length (l .scratch) ≡ headIn f .m * headIn f .s
   pub numbers-long : length (l .numbers) ≡ 1024
   pub output-long : headIn f .size ≤ length (l .output)
 
+-- a turn for all columns of its missing blocks, in that memory, and what a release answers after it
+abbrev pub wholeTurn : List ℕ → Lent → Turning
+wholeTurn f l = turn (headIn f) (sessionOfFile f .store) (sessionOfFile f .marks) (l .scratch) (l .numbers) 0 (headIn f .s / 2)
+
 abbrev pub handedOut : List ℕ → Lent → HandedOut
-handedOut f l = handOut (headIn f) (sessionOfFile f .store) (sessionOfFile f .marks) l .answer
+handedOut f l =
+    release (headIn f) (sessionOfFile f .store) (sessionOfFile f .marks) (wholeTurn f l .scratch) (wholeTurn f l .finished) (l .output) .answer
 
 -- ---- the lines of a text
 
@@ -104,8 +109,8 @@ pub record ListingTheorems : Type 0 where
   pub line-count : (f : List ℕ) → Accepted f
       → length (linesOf (listingOf f))
       ≡ 4 + count isRefused (answersIn f) + length (ranges (missing (headIn f .n) (sessionOfFile f .marks)))
-  -- The last line says what the hand-out answers, whatever memory of the right size it is lent: `complete` exactly where it gives
-  -- the content,
+  -- The last line says what a release answers after a turn for all columns, whatever memory of the right size they are lent:
+  -- `complete` exactly where it gives the content,
   pub last-line-complete : (f : List ℕ) → Accepted f → (l : Lent) → RoomIn f l
       → (lastLine (listingOf f) ≡ text "complete") ↔ (handedOut f l ≡ Complete (place (headIn f .size)))
   -- `hash differs` exactly where it is refused by 51,

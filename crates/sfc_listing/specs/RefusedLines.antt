@@ -6,12 +6,12 @@ use mathlib.Core.List.{List, [], _∷_, _++_, map}
 use lib.ListN.{length, getD, take, drop}
 use Rattle.sfc.specs.answer.Numbers.{numberOf}
 use Rattle.sfc.specs.format.Header.{lengthField}
-use Rattle.sfc.specs.session.Session.{Session, blank, verdictOf, after, offered}
+use Rattle.sfc.specs.session.Session.{Session, blank, verdictOf, after}
 use Rattle.sfc.specs.session.History.{afterAll, verdicts}
 use Rattle.sfc.specs.session.SessionTheorems.{count}
 use Rattle.sfc_walk.specs.Walk.{lengthOfAll}
 use Rattle.sfc_walk.specs.WalkTheorems.{concat}
-use Rattle.sfc_listing.specs.Listing.{between, brokenText, toldIn, headText, endText, listingOf}
+use Rattle.sfc_listing.specs.Listing.{between, brokenText, brokeAt, toldIn, headText, endText, listingOf}
 use Rattle.sfc_listing.specs.ListingTheorems.{headIn, sessionOfFile, Accepted, offersIn, afterOffers}
 use Rattle.sfc_listing.specs.ListingTheorems.{answersIn, isRefused, linesOf}
 use Rattle.sfc.specs.declared.format.header.Head.{Head}
@@ -40,7 +40,7 @@ breakOf at (Refused r) (At p) = record { number = numberOf r; place = at + p .0 
 -- those of offers that stand one after the other in the file, in the order met
 unfoldable pub breaksIn : Head → Session → ℕ → List (List ℕ) → List Break
 breaksIn h x at [] = []
-breaksIn h x at (c ∷ cs) = breakOf at (offered h x c .verdict) (offered h x c .spot) ++ breaksIn h (after h x c) (at + length c) cs
+breaksIn h x at (c ∷ cs) = breakOf at (verdictOf h x c) (brokeAt h x c) ++ breaksIn h (after h x c) (at + length c) cs
 
 -- and of a file: a blank session, and the first chunk after the region
 abbrev pub breaksOf : List ℕ → List Break
@@ -58,7 +58,7 @@ pub record RefusedLines : Type 0 where
   -- for each refusal before it. With no line more than `line-count` says, these are all.
   pub each-told : (f : List ℕ) → Accepted f → (cs ds : List (List ℕ)) (c : List ℕ) (r : Reason)
       → toldIn (headIn f) (between f) ≡ cs ++ (c ∷ ds) → verdictOf (headIn f) (afterAll (headIn f) (blank (headIn f)) cs) c ≡ Refused r
-      → (p : BytePlace) × (offered (headIn f) (afterAll (headIn f) (blank (headIn f)) cs) c .spot ≡ At p)
+      → (p : BytePlace) × (brokeAt (headIn f) (afterAll (headIn f) (blank (headIn f)) cs) c ≡ At p)
       × (getD (linesOf (listingOf f)) (2 + count isRefused (verdicts (headIn f) (blank (headIn f)) cs)) []
       ≡ brokenText (numberOf r) (lengthField f + 12 + lengthOfAll cs + p .0))
   -- Where each chunk is fresh or a repeat, and the trailer comes right after the last, the listing has no such line.

@@ -11,7 +11,7 @@ ghost use Rattle.sfc_listing.specs.Text.{decimal, hexDigit, hex, line};
 ghost use Rattle.sfc_listing.specs.Listing.{refusedText, refusalLine, verdictLine, uuidLine, shapeLine, countsLine, headText};
 ghost use Rattle.sfc_listing.specs.Lines.{wordOf, rangeLine, boundsLines, endLines, endRoom, Appended, Printed};
 
-// How the hand-out ends.
+// How the release ends.
 pub(crate) enum LastWord {
     Complete,
     HashDiffers,

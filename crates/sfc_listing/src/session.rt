@@ -4,14 +4,16 @@ use crate::lines::put_end;
 use crate::lines::put_head;
 use crate::refusals::tell_offers;
 use crate::room::HASH_DIFFERS;
+use sfc::ColumnCount;
 use sfc::HandedOut;
 use sfc::Head;
 use sfc::Listed;
 use sfc::MarksCounted;
 use sfc::count_marks;
-use sfc::hand_out;
 use sfc::list_ranges;
 use sfc::number_of;
+use sfc::rebuild_turn;
+use sfc::release;
 ghost use mathlib.Core.Path.{_≡_};
 ghost use mathlib.Core.Bool.{false};
 ghost use Prim.Native.Nat.{_+_, _%_, _≤_};
@@ -55,7 +57,7 @@ fn bounds_of(h: Head, marks: &[u8], bounds: &mut [u32]) -> usize
     }
 }
 
-// What the hand-out answers.
+// What a turn for all columns and a release answer.
 fn last_word(
     h: Head,
     store: &[u8],
@@ -67,7 +69,11 @@ fn last_word(
     requires { ⌜ (rebuildWrong h (now store) (now marks) (lentOf (now scratch) (now numbers) (now content)) ≡ false) × (h .size ≤ length (now content)) ⌝ }
     ensures { λ r. ⌜ wordOf r ≡ lastWord h (sessionOf (now (store .entry)) (now (marks .entry)) noTallies) ⌝ }
 {
-    let answer = hand_out(h, store, marks, scratch, numbers, content);
+    let whole = h.s / 2;
+    let none = ColumnCount(0);
+    let turn = rebuild_turn(h, store, marks, scratch, numbers, none, whole);
+    let released = release(h, store, marks, scratch, turn.finished, content);
+    let answer = released.handed;
     match answer {
         HandedOut::Complete(_) => LastWord::Complete,
         HandedOut::Refused(reason) => {
@@ -120,6 +126,6 @@ pub(crate) fn list_session(
 {
     let uuid = h.uuid;
     let start = put_head(uuid, h.size, h.n, h.m, h.s, out);
-    let end = tell_offers(h, chunks, from, store, marks, out, start);
+    let end = tell_offers(h, chunks, from, store, marks, scratch, out, start);
     report(h, store, marks, scratch, numbers, content, bounds, out, end)
 }

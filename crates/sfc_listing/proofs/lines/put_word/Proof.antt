@@ -1,4 +1,4 @@
--- `sfc_listing::lines::put_word` meets its contract: one text for each way a hand-out ends. Assumes nothing.
+-- `sfc_listing::lines::put_word` meets its contract: one text for each way a release ends. Assumes nothing.
 use native.Mathlib.Omega.{arith}
 use Rattle.sfc_listing.specs.Text.{text}
 use Rattle.sfc_listing.specs.Lines.{wordOf}

@@ -7,13 +7,13 @@ use Rattle.sfc_listing.proofs.refusals.tell_stop.Tie as tie
 
 returns : tie.Need-returns
 returns c =
-    let a = c .before .before .before .before .before .args in
+    let a = c .before .before .before .before .before .before .args in
     stop-none (a .h) (sessionOf (a .store .now) (a .marks .now) (a .tallies)) (a .rest .now) (a .from) (a .out .now) (a .at) (c .if1 .taken)
 
 returns-2 : tie.Need-returns-2
 returns-2 c =
-    let a = c .before .before .before .before .before .before .before .before .before .before .before .before .before .before .before .args in
-    stop-some (a .h) (sessionOf (a .store .now) (a .marks .now) (a .tallies)) (a .rest .now) (a .from) _ (c .before .before .before .before .before .before .before .before .before .before .if1 .left) (c .before .before .before .before .before .before .tell-offer .ensures)
+    let a = c .before .before .before .before .before .before .before .before .before .before .before .before .before .before .before .before .before .before .before .args in
+    stop-some (a .h) (sessionOf (a .store .now) (a .marks .now) (a .tallies)) (a .rest .now) (a .from) _ (c .before .before .before .before .before .before .before .before .before .before .before .before .before .if1 .left) (c .before .before .before .before .before .before .before .before .tell-offer .ensures)
 
 pub tell-stop-spec : {M : Type 1} → statement M
 tell-stop-spec =
@@ -21,6 +21,7 @@ tell-stop-spec =
     (tie.spec
     returns
     (λ c κs. search needs)
+    (λ c. search needs)
     (λ c. search needs)
     (λ c. search needs)
     (λ c. search needs)
