@@ -1,2 +1,3 @@
--- That a length is none of a refusal's numbers.
+-- That a length is none of a refusal's numbers; the laws of a call by a header are this crate's own.
 pub mod Apart
+mod HeaderLaws
