@@ -8,9 +8,11 @@ for name in blake3_native sfc_native; do bench/native-lib "$name" >/dev/null; do
 mkdir -p target/bench
 linked=(-l static=sfc_native -l static=blake3_native)
 if [ $# -gt 0 ]; then
-  bench/native-before "$1" sfc_native sfc_hand_out sfc_write
-  linked+=(-l static=before_sfc_native --cfg before)
+  bench/native-before "$1" sfc_native sfc_hand_out sfc_turn sfc_release sfc_write
+  before=turns
+  if nm target/native/libbefore_sfc_native.a | grep -q ' T before_sfc_hand_out$'; then before=whole; fi
+  linked+=(-l static=before_sfc_native --cfg before --cfg "before=\"$before\"")
 fi
-rustc --edition 2021 -C opt-level=3 -D warnings --check-cfg 'cfg(before)' -L native=target/native "${linked[@]}" \
-  -o target/bench/handout bench/handout/main.rs
+rustc --edition 2021 -C opt-level=3 -D warnings --check-cfg 'cfg(before, values(none(), "whole", "turns"))' \
+  -L native=target/native "${linked[@]}" -o target/bench/handout bench/handout/main.rs
 target/bench/handout

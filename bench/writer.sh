@@ -8,7 +8,7 @@ for name in blake3_native cauchy_native sfc_native; do bench/native-lib "$name" 
 mkdir -p target/bench
 linked=(-l static=sfc_native -l static=cauchy_native -l static=blake3_native)
 if [ $# -gt 0 ]; then
-  bench/native-before "$1" sfc_native sfc_hand_out sfc_write
+  bench/native-before "$1" sfc_native sfc_hand_out sfc_turn sfc_release sfc_write
   linked+=(-l static=before_sfc_native --cfg before)
 fi
 rustc --edition 2021 -C opt-level=3 -D warnings --check-cfg 'cfg(before)' -L native=target/native "${linked[@]}" \

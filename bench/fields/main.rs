@@ -45,10 +45,10 @@ fn long_fields(mut bytes: usize) -> Vec<u8> {
     encoded(&fields)
 }
 
-/// A header with these fields behind those of `front`. Reading is all that a hand-out does where no store is lent: 71.
+/// A header with these fields behind those of `front`. Reading is all that a turn does where no store is lent: 71.
 fn reading(front: &[u8], fields: Vec<u8>) -> impl FnMut() {
     let header = Plan { fields: [front, &fields].concat(), flags: 0xC0, s: 2, ..Plan::default() }.file_around(&[]);
-    move || assert_eq!(proved::hand_out(&header, &[], &[], &mut [], &mut []), 71, "the header is refused")
+    move || assert_eq!(proved::turn(&header, &[], &[], &mut [], &mut 0, 0), 71, "the header is refused")
 }
 
 /// The time that so many empty fields take, and its part of the reading.

@@ -1,6 +1,8 @@
-//! Processor times of a hand-out at the house limits with some data blocks gone, against a plain copy of the same bytes with
-//! the proved hash of them and against the hand-out of an earlier revision where one is linked, in one run. Only ratios within
-//! a run say something.
+//! Processor times of a hand-out, one turn for all columns and a release, at the house limits with some data blocks gone, against a
+//! plain copy of the same bytes with the proved hash of them and against the hand-out of an earlier revision where one is linked;
+//! and of the longest turn at some budgets, in one run. Only ratios within a run say something.
+#[cfg(before)]
+mod before;
 #[path = "../../second/src/blake3.rs"]
 #[allow(dead_code)]
 mod blake3;
@@ -22,7 +24,7 @@ mod proved;
 #[allow(dead_code)]
 mod writer;
 
-use measure::{bytes, each_call};
+use measure::{bytes, each_call, seconds};
 use writer::Plan;
 
 fn copy_time(content: &[u8]) -> f64 {
@@ -67,7 +69,7 @@ fn hand_out_times<const K: usize>(plan: &Plan, session: &Session, ways: [HandOut
 
 #[cfg(before)]
 fn show(plan: &Plan, session: &Session, label: &str, copy: f64) {
-    let [time, old] = hand_out_times(plan, session, [proved::hand_out, proved::hand_out_before]);
+    let [time, old] = hand_out_times(plan, session, [proved::hand_out, before::hand_out]);
     println!("{label}: {time:.4} s, {:.2} times the copy; before / now {:.2}", time / copy, old / time);
 }
 
@@ -75,6 +77,40 @@ fn show(plan: &Plan, session: &Session, label: &str, copy: f64) {
 fn show(plan: &Plan, session: &Session, label: &str, copy: f64) {
     let [time] = hand_out_times(plan, session, [proved::hand_out]);
     println!("{label}: {time:.4} s, {:.2} times the copy", time / copy);
+}
+
+/// The least time of each turn of some rebuilds at this budget; the release after each must give the plan's content.
+fn turn_times(plan: &Plan, session: &Session, budget: u32) -> Vec<f64> {
+    let columns = plan.s / 2;
+    let mut least = vec![f64::MAX; columns.div_ceil(budget) as usize];
+    for _ in 0..3 {
+        let (mut scratch, mut out) = (vec![0xEE; (plan.m * plan.s) as usize], vec![0xEE; plan.content.len()]);
+        let (header, store, marks) = (&session.header, &session.store, &session.marks);
+        let mut finished = 0;
+        for least in &mut least {
+            let time = seconds(1, || assert_eq!(proved::turn(header, store, marks, &mut scratch, &mut finished, budget), 0, "refused"));
+            *least = least.min(time);
+        }
+        assert_eq!(finished, columns, "columns are left");
+        assert_eq!(proved::release(header, store, marks, &mut scratch, &mut finished, &mut out), 0, "refused");
+        assert!(out == plan.content, "the content is wrong");
+    }
+    least
+}
+
+fn show_turns(plan: &Plan, session: &Session, gone: usize) {
+    let whole = turn_times(plan, session, plan.s / 2)[0];
+    for budget in [1, 16, 64, 256, 2048] {
+        let times = turn_times(plan, session, budget);
+        let (longest, sum) = (times.iter().copied().fold(0.0, f64::max), times.iter().sum::<f64>());
+        println!(
+            "budget {budget} with {gone} blocks gone: the longest of {} turns takes {:.2} ms, {:.2} of one for all; together {:.2} times that",
+            times.len(),
+            longest * 1e3,
+            longest / whole,
+            sum / whole
+        );
+    }
 }
 
 fn main() {
@@ -86,6 +122,9 @@ fn main() {
         println!("n={n} m={m} s={s}: a copy with its hash takes {copy:.5} s");
         for gone in [0, 1, 16, 30, 32] {
             show(&plan, &Session::new(&plan, &blocks, gone), &format!("hand-out with {gone} blocks gone"), copy);
+        }
+        if s == 4096 {
+            show_turns(&plan, &Session::new(&plan, &blocks, 30), 30);
         }
     }
 }

@@ -60,10 +60,11 @@ verdictLine at (Fresh i p) s = []
 verdictLine at (Repeat i p) s = []
 verdictLine at (NotTaken r) s = refusalLine at r s
 
--- of an offer of c to x: its verdict, and where c broke
+-- where a chunk broke that was offered to x
 abbrev pub brokeAt : Head → Session → List ℕ → Spot
 brokeAt h x c = spotOf h c (verdictOf h x c)
 
+-- and the line of that offer
 abbrev pub refusedLine : Head → Session → ℕ → List ℕ → List ℕ
 refusedLine h x at c = verdictLine at (verdictOf h x c) (brokeAt h x c)
 

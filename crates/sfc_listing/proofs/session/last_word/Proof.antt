@@ -1,5 +1,4 @@
 -- `sfc_listing::session::last_word` meets its contract: one word for each answer of the release. Assumes nothing.
-use Rattle.sfc.specs.give.Turns.{turningOf}
 use Rattle.sfc_listing.proofs.ReportLaws.{word-whole, word-differs, word-few}
 use borrow.Author.Needs.{needs}
 use Rattle.sfc_listing.proofs.session.last_word.Statement.{statement}
