@@ -27,7 +27,7 @@ ghost use Prim.Native.Nat.{_+_, _*_};
 ghost use lib.ListN.{length};
 ghost use Rattle.sfc.specs.session.Session.{sessionOf, spotOf};
 ghost use Rattle.sfc.specs.session.Offer.{restarts, scratchAfter, finishedAfter, loggedOf, offeredOf, offered};
-ghost use Rattle.sfc.specs.inner.Steps.{Stepped, stepped, Welcome, Judged, judgedOf, judged};
+ghost use Rattle.sfc.specs.inner.Steps.{Stepped, stepped, Welcome, judgedOf, judged};
 ghost use Rattle.sfc.specs.inner.Spots.{Fitting};
 
 // What an offer came to: the block, and its place in the store; or the reason of a refusal.
