@@ -1,12 +1,14 @@
 // Little-endian fields of a slice at 16, 32 and 64 bits, total readers and writers over one definition of the width; and runs of
 // elements, which every floor above needs.
+#![tactic(auto)]
+
 mod runs;
 
 ghost use Rattle.std.specs.Prelude.{◌≡◌, ◌+◌, ◌-◌, ◌^◌, ◌<◌, ◌≤◌, length, get_or};
 ghost use Rattle.little.specs.Fields.{le, bytes_of, put_le, fits};
 
 pub use runs::{
-    are_all8, are_all16, are_all32, clear8, clear16, clear32, fill8, fill16, fill32, is_same,
+    are_all8, are_all16, are_all32, clear8, clear16, clear32, copy, fill8, fill16, fill32, is_same,
     least, within8, within16, within32,
 };
 

@@ -1,6 +1,6 @@
-// Runs of bytes or of larger elements: filled with one value, compared, and cut to a length. Rattle has no generics, so that a
-// call stands here once for each width it is used at.
-ghost use Rattle.std.specs.Prelude.{◌≡◌, ◌≤◌, min, length, take, replicate};
+// Runs of bytes or of larger elements: filled with one value, compared, copied, and cut to a length. A call stands here once for each
+// width it is used at.
+ghost use Rattle.std.specs.Prelude.{◌≡◌, ◌++◌, ◌≤◌, drop, min, length, take, replicate};
 ghost use Rattle.little.specs.Runs.{zeros, same, are_all};
 
 // The smaller of two lengths.
@@ -28,6 +28,14 @@ pub fn within32(n: usize, s: &[u32]) -> usize
     ensures { (result ≡ min n (length s.now)) × (result ≤ length s.now) × (result ≡ length (take result s.now)) }
 {
     least(n, s.len())
+}
+
+// Stores src at the front of d, and leaves what stands after it.
+pub fn copy(src: &[u8], d: &mut [u8])
+    requires { length src.now ≤ length d.old }
+    ensures { d.new ≡ take (length src.now) src.now ++ drop (length src.now) d.old }
+{
+    d[..src.len()].copy_from_slice(src);
 }
 
 // One value over all of a slice.
