@@ -1,5 +1,7 @@
 // BLAKE3 without a key, 32 bytes of output (document 01, "BLAKE3, unkeyed"): the hash of a text, and a hash that
 // is fed part by part.
+#![tactic(auto)]
+
 mod block;
 mod compress;
 mod in_place;

@@ -18,13 +18,13 @@ const MOST_FED: u64 = 1 << 40;
 const PIECE: u64 = PIECE_LENGTH as u64;
 
 // Why a record or a part is refused; specs/Running.antt has document 01's number.
-#[derive(Drop)]
+#[derive(Clone, Copy)]
 pub enum Reason {
     RunningHash,
 }
 
 // What a call of the running hash answers.
-#[derive(Drop)]
+#[derive(Clone, Copy)]
 pub enum Answer {
     Done,
     Refused(Reason),
@@ -32,22 +32,22 @@ pub enum Answer {
 
 // The piece that is being filled, how many bytes have been fed, and the trees that wait for their right neighbour. The count
 // says how many bytes of the piece and which heights of the stack are in use.
-#[derive(Drop)]
+#[derive(Clone, Copy)]
 pub struct Running {
     pub piece: [u8; PIECE_LENGTH],
     pub fed: u64,
     pub stack: [u32; STACK_WORDS],
 }
 
-// What a feed gives: the answer, and the record beside it, since no enum can hold an array.
-#[derive(Drop)]
+// What a feed gives: the answer, and the record beside it.
+#[derive(Clone, Copy)]
 pub struct Fed {
     pub answer: Answer,
     pub state: Running,
 }
 
 // The hash, or zeros beside a refusal.
-#[derive(Drop)]
+#[derive(Clone, Copy)]
 pub struct Finished {
     pub answer: Answer,
     pub hash: [u8; 32],
@@ -71,7 +71,7 @@ fn put_part(bytes: &mut [u8], at: usize, part: &[u8])
     ensures { bytes.new ≡ put bytes.old at part.now }
 {
     let end = at + part.len();
-    bytes::copy(part, &mut bytes[at..end]);
+    little::copy(part, &mut bytes[at..end]);
 }
 
 // Whether the bytes fed so far and more of them are more than may be fed.
