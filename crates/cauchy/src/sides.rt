@@ -171,7 +171,7 @@ pub fn copy_sides(
         let to = from + 2 * count;
         let at = range_at(s, first, i);
         let end = at + 2 * count;
-        bytes::copy(&store[from..to], &mut scratch[at..end]);
+        little::copy(&store[from..to], &mut scratch[at..end]);
         i += 1;
     }
 }

@@ -9,7 +9,7 @@ use lib.Seq.{drop-set-lt, get_or-set_same, get_or-set_other, take-suc, drop-cons
 use native.Mathlib.Decide.{ℕ_discrete}
 use Rattle.cauchy.specs.inner.System.{Ops, field, dot, zeros, reduce, back, first, extend}
 use lib.Bits.{bit_xor}
-use Rattle.gf16.specs.Field.{mul, inv}
+use Rattle.gf16.specs.Field.{mul}
 use Rattle.cauchy.specs.inner.Promises.{Below, forward, backward, RowTakenOff, UnknownFound, reduce_one, scale_one, term_one}
 use Rattle.cauchy.proofs.algebra.SystemLaws.{get_or-reduce, get_or-back, length-reduce, length_back}
 

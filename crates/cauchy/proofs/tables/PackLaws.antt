@@ -1,6 +1,6 @@
 -- Packed words: their sum is packed by rows, each comes back out, and all are doubled at once. Assumes nothing.
 use mathlib.Core.Path.{◌≡◌, sym, ap, ap₂, ◌∙◌}
-use Prim.Native.Nat.{ℕ, ◌+◌, ◌-◌, ◌*◌, ◌/◌, ◌%◌, ◌<◌}
+use Prim.Native.Nat.{ℕ, ◌+◌, ◌*◌, ◌/◌, ◌%◌, ◌<◌}
 use native.Mathlib.Omega.{arith}
 use lib.Bits.{bit_xor, bit_and, xor_block, and_block, and_mask}
 use Rattle.gf16.specs.Field.{polynomial, mul}
