@@ -1,4 +1,6 @@
 // The SFC container: every public call and type, by name. Each call takes any bytes, and a refusal gives document 01's number.
+#![tactic(auto)]
+
 mod answer;
 mod format;
 mod give;

@@ -52,10 +52,13 @@ value_back zero v h tail = omega arith
 value_back (suc width) v h tail =
     let p : 256 ^ suc width ≡ 256 ^ width * 256 = pow-suc _ _ in
     let l = length_big width (v / 256) in
-    let e : big_bytes width (v / 256) ++ (v % 256 ∷ []) ++ tail ≡ big_bytes width (v / 256) ++ v % 256 ∷ tail = append_snoc (big_bytes width (v / 256)) (v % 256) tail in
+    let e : (big_bytes width (v / 256) ++ (v % 256 ∷ [])) ++ tail ≡ big_bytes width (v / 256) ++ v % 256 ∷ tail = append_snoc (big_bytes width (v / 256)) (v % 256) tail in
     let f : 0 + width ≡ length (big_bytes width (v / 256)) + 0 = omega arith in
     let g : get_or (big_bytes width (v / 256) ++ v % 256 ∷ tail) (0 + width) 0 ≡ v % 256 = ap (λ (j : ℕ). get_or (big_bytes width (v / 256) ++ v % 256 ∷ tail) j 0) f ∙ get_or-append-add (big_bytes width (v / 256)) (v % 256 ∷ tail) 0 0 in
-    rw (e, g, value_back width (v / 256) (omega arith) (v % 256 ∷ tail)) (omega arith)
+    let x : List ℕ = (big_bytes width (v / 256) ++ (v % 256 ∷ [])) ++ tail in
+    let high : be x 0 width ≡ v / 256 = ap (λ (l : List ℕ). be l 0 width) e ∙ value_back width (v / 256) (omega arith) (v % 256 ∷ tail) in
+    let low : get_or x (0 + width) 0 ≡ v % 256 = ap (λ (l : List ℕ). get_or l (0 + width) 0) e ∙ g in
+    omega (arith, high, low)
 
 -- a value read has the bytes that it was read from
 pub bytes_back : (width : ℕ) (b : List ℕ) → Bytes b → (at : ℕ) → at + width ≤ length b → big_bytes width (be b at width) ≡ part b at width

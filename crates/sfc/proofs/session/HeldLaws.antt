@@ -13,7 +13,7 @@ use Rattle.little.specs.Fields.{Bytes}
 use Rattle.little.specs.Parts.{part, block}
 use Rattle.little.proofs.Laws.{block_laws, part_laws}
 use Rattle.cauchy.specs.Code.{joined, word_bytes, Held}
-use Rattle.cauchy.specs.Decode.{held, rank, found_words, decode, decoded}
+use Rattle.cauchy.specs.Decode.{rank, found_words, decode, decoded}
 use Rattle.cauchy.specs.Theorems.{Shape}
 use Rattle.cauchy.proofs.Laws.{code_laws}
 use Rattle.sfc.specs.session.Lent.{lent_wrong}

@@ -7,7 +7,7 @@ use native.Mathlib.Omega.{arith}
 use borrow.Author.Tests.{eq-eqb, ne_eqb, eqb-true, ltb-false, leb-true, leb-false, not-false}
 use lib.Dec.{T, eqb, leb}
 use lib.ListN.{length, set, take, drop, length-replicate}
-use Rattle.little.specs.Parts.{part, put, block, put_block}
+use Rattle.little.specs.Parts.{part, put, put_block}
 use Rattle.little.proofs.Laws.{put_laws, part_laws, block_laws, test_laws}
 use Rattle.little.specs.Runs.{zeros, same}
 use Rattle.sfc.specs.answer.Numbers.{NumbersAre, Check, checked, verdict, number_of, reason_of}

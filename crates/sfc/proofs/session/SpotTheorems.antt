@@ -12,7 +12,7 @@ use lib.ListN.{length, get_or}
 use Rattle.little.specs.Fields.{bytes_of}
 use Rattle.little.specs.Runs.{zeros}
 use Rattle.little.proofs.Laws.{little_laws}
-use Rattle.sfc.specs.answer.Numbers.{Check, verdict, Passed, number_of, reason_of}
+use Rattle.sfc.specs.answer.Numbers.{Check, Passed, number_of, reason_of}
 use Rattle.sfc.specs.answer.Places.{place}
 use Rattle.sfc.specs.format.Bytes.{stands_at}
 use Rattle.sfc.specs.format.Chunk.{chunk_magic, end_marker, index_of, payload_length, chunk_length, type_for, chunk_checks, alone_checks}

@@ -11,7 +11,6 @@ use lib.ListN.{length, get_or, take, drop, length-append, length-drop, take-appe
 use lib.Seq.{get_or-drop}
 use Rattle.little.specs.Parts.{part}
 use Rattle.little.specs.Fields.{Bytes, le, bytes_of}
-use Rattle.little.specs.Runs.{any}
 use Rattle.little.proofs.Laws.{part_laws, little_laws, byte_laws, test_laws}
 use Rattle.blake3.specs.Tree.{hash}
 use Rattle.blake3.proofs.Laws.{hash_laws}

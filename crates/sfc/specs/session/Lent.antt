@@ -30,7 +30,7 @@ pub record Lent : Type 0 where
 abbrev pub lent_of : List ℕ → List ℕ → List ℕ → Lent
 lent_of scratch numbers output = record { scratch = scratch; numbers = numbers; output = output }
 
--- or the scratch is not: M-as-S bytes and 1,024 numbers
+-- or the scratch is not: M·S bytes and 1,024 numbers
 unfoldable pub rebuild_wrong : Head → List ℕ → List ℕ → Lent → Bool
 rebuild_wrong h store marks l =
     lent_wrong h.size h.n h.m h.s store marks || not (eqb (length l.scratch) (h.m * h.s)) || not (eqb (length l.numbers) 1024)

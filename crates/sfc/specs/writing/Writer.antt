@@ -101,7 +101,7 @@ sealed b = b ++ hash b ++ end_marker
 unfoldable pub chunk_bytes : List ℕ → ℕ → ℕ → ℕ → ℕ → List ℕ → List ℕ
 chunk_bytes uuid n m s i payload = sealed (chunk_header uuid n m s i ++ payload)
 
--- the content with zeros up to N-as-S bytes, and block i of the code made from it
+-- the content with zeros up to N·S bytes, and block i of the code made from it
 unfoldable pub data_of : Input → List ℕ
 data_of w = padded (blocks w * w.s) w.content
 

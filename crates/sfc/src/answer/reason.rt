@@ -3,7 +3,7 @@
 ghost use Rattle.std.specs.Prelude.{◌≡◌};
 ghost use Rattle.sfc.specs.answer.Numbers.{number_of, reason_of};
 
-#[derive(Drop)]
+#[derive(Clone, Copy)]
 pub enum Reason {
     HeaderShort,
     HeaderMagic,
@@ -45,7 +45,7 @@ pub enum Reason {
 }
 
 // What a list of checks comes to.
-#[derive(Drop)]
+#[derive(Clone, Copy)]
 pub enum Checked {
     Good,
     Refused(Reason),

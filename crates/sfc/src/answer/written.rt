@@ -2,7 +2,7 @@
 use crate::answer::reason::Reason;
 
 // How many bytes now stand at the output's front. A refusal leaves the output as it was.
-#[derive(Drop)]
+#[derive(Clone, Copy)]
 pub enum Written {
     Bytes(usize),
     Refused(Reason),

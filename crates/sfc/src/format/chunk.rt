@@ -22,14 +22,14 @@ const DATA: u32 = 1;
 const RECOVERY: u32 = 2;
 
 // A whole chunk: its index, and the place in it where the payload begins. A refused one: why, and where it broke.
-#[derive(Drop)]
+#[derive(Clone, Copy)]
 pub enum ChunkChecked {
     Whole(BlockNumber, BytePlace),
     Refused(Reason, Spot),
 }
 
 // How many bytes the chunk at the front takes up.
-#[derive(Drop)]
+#[derive(Clone, Copy)]
 pub enum ChunkMeasured {
     Length(usize),
     Refused(Reason),

@@ -15,7 +15,7 @@ use crate::format::text::{name_length, stands_at};
 
 // The fields of a header region, in their order: H is header_length, P is priorities. The name has name_length bytes, and
 // zeros after them.
-#[derive(Drop)]
+#[derive(Clone, Copy)]
 pub struct Head {
     pub header_length: u32,
     pub uuid: [u8; 16],
@@ -34,7 +34,7 @@ pub struct Head {
 }
 
 // With a refusal the head is all zeros.
-#[derive(Drop)]
+#[derive(Clone, Copy)]
 pub struct HeaderRead {
     pub verdict: Checked,
     pub head: Head,
@@ -131,13 +131,13 @@ fn head_of(r: &[u8]) -> Head
     ensures { result ≡ head_of r.now }
 {
     let mut uuid = [0u8; 16];
-    bytes::copy(&r[UUID_AT..SIZE_AT], &mut uuid);
+    little::copy(&r[UUID_AT..SIZE_AT], &mut uuid);
     let mut hash = [0u8; 32];
-    bytes::copy(&r[HASH_AT..N_AT], &mut hash);
+    little::copy(&r[HASH_AT..N_AT], &mut hash);
     let mut name = [0u8; NAME_ROOM];
     let length = name_length(&r[NAME_AT..HASH_AT]);
     let end = NAME_AT + length;
-    bytes::copy(&r[NAME_AT..end], &mut name);
+    little::copy(&r[NAME_AT..end], &mut name);
     Head {
         header_length: little::read32(r, 0),
         uuid,

@@ -10,7 +10,7 @@ use crate::format::header::read_header;
 use crate::format::layout::{AFTER_LENGTH, HEADER_BEFORE_LISTS, REGION_AT};
 
 // The place in the input where a field's value begins, and its length.
-#[derive(Drop)]
+#[derive(Clone, Copy)]
 pub enum FieldFound {
     At(BytePlace, u32),
     Nothing,

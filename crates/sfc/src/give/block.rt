@@ -13,7 +13,7 @@ use crate::give::rebuild::rebuild_missing;
 use crate::session::lent::is_rebuild_wrong;
 
 // The block asked for, and the place of its first byte in the content. It is unverified, whatever else is known.
-#[derive(Drop)]
+#[derive(Clone, Copy)]
 pub enum BlockGiven {
     Unverified(BlockNumber, BytePlace),
     Refused(Reason),
@@ -39,7 +39,7 @@ fn give_block(
     if marks[i] == 1 {
         let at = i * width;
         let end = at + width;
-        bytes::copy(&store[at..end], out);
+        little::copy(&store[at..end], out);
         return true;
     }
     if !rebuild_missing(n, m, s, store, marks, scratch, numbers) {
@@ -48,7 +48,7 @@ fn give_block(
     let row = i - cauchy::held_count(&marks[..i]);
     let at = row * width;
     let end = at + width;
-    bytes::copy(&scratch[at..end], out);
+    little::copy(&scratch[at..end], out);
     true
 }
 

@@ -71,11 +71,11 @@ pub(crate) fn copy_content(
         let count = little::least(s, size - at);
         let to = at + count;
         if marks[j] == 1 {
-            bytes::copy(&store[at..to], &mut out[at..to]);
+            little::copy(&store[at..to], &mut out[at..to]);
         } else {
             let from = row * s;
             let end = from + count;
-            bytes::copy(&scratch[from..end], &mut out[at..to]);
+            little::copy(&scratch[from..end], &mut out[at..to]);
             row += 1;
         }
         j += 1;

@@ -10,7 +10,7 @@ use crate::session::lent::is_lent_wrong;
 
 // How many data blocks are given, which is also the index of the first that is not (N where all are), and how many bytes that
 // is. It is unverified, whatever else is known.
-#[derive(Drop)]
+#[derive(Clone, Copy)]
 pub enum PrefixGiven {
     Unverified(BlockNumber, BytePlace),
     Refused(Reason),
@@ -46,6 +46,6 @@ pub fn prefix(h: Head, store: &[u8], marks: &[u8], out: &mut [u8]) -> PrefixGive
     if out.len() < end {
         return PrefixGiven::Refused(Reason::OutputShort);
     }
-    bytes::copy(&store[..end], out);
+    little::copy(&store[..end], out);
     PrefixGiven::Unverified(BlockNumber(blocks as u32), BytePlace(end as u32))
 }

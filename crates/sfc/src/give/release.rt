@@ -14,14 +14,14 @@ use crate::give::turn::columns_left;
 use crate::session::lent::is_columns_wrong;
 
 // Complete is said here and nowhere else, with the place where the content ends.
-#[derive(Drop)]
+#[derive(Clone, Copy)]
 pub enum HandedOut {
     Complete(BytePlace),
     Refused(Reason),
 }
 
 // The answer, and how many columns are finished by now: none once the bytes were judged.
-#[derive(Drop)]
+#[derive(Clone, Copy)]
 pub struct Released {
     pub handed: HandedOut,
     pub finished: ColumnCount,

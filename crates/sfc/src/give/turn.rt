@@ -10,14 +10,14 @@ use crate::session::lent::{ELEMENTS, is_columns_wrong};
 use cauchy::Answer;
 
 // How many columns were rebuilt: the budget, or all that were left where they are fewer.
-#[derive(Drop)]
+#[derive(Clone, Copy)]
 pub enum Turned {
     Did(ColumnCount),
     Refused(Reason),
 }
 
 // The answer, and how many columns are finished by now.
-#[derive(Drop)]
+#[derive(Clone, Copy)]
 pub struct TurnAnswer {
     pub turned: Turned,
     pub finished: ColumnCount,

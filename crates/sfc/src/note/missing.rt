@@ -10,7 +10,7 @@ use crate::session::lent::is_marks_wrong;
 use crate::session::marks::HELD;
 
 // How many indices were listed.
-#[derive(Drop)]
+#[derive(Clone, Copy)]
 pub enum Listed {
     Count(usize),
     Refused(Reason),

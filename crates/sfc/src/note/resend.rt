@@ -18,7 +18,7 @@ use crate::note::ranges::{count_ranges, put_range_bytes};
 use crate::session::lent::is_marks_wrong;
 
 // With a refusal the UUID is all zeros and there are no ranges.
-#[derive(Drop)]
+#[derive(Clone, Copy)]
 pub struct NoteRead {
     pub verdict: Checked,
     pub uuid: [u8; 16],
@@ -31,7 +31,7 @@ fn put_start(uuid: [u8; 16], count: u32, out: &mut [u8])
     ensures { out.new ≡ big_bytes 4 (19 + 8 * count) ++ (1 ∷ (uuid ++ (big_bytes 2 count ++ drop 23 out.old))) }
 {
     put_big(out, COUNT_AT, COUNT_BYTES, count);
-    bytes::copy(&uuid, &mut out[UUID_AT..COUNT_AT]);
+    little::copy(&uuid, &mut out[UUID_AT..COUNT_AT]);
     out[VERSION_AT] = VERSION;
     put_big(
         out,
@@ -121,7 +121,7 @@ fn uuid_of(note: &[u8]) -> [u8; 16]
     ensures { result ≡ uuid_in note.now }
 {
     let mut uuid = [0u8; 16];
-    bytes::copy(&note[UUID_AT..COUNT_AT], &mut uuid);
+    little::copy(&note[UUID_AT..COUNT_AT], &mut uuid);
     uuid
 }
 

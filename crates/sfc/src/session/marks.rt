@@ -17,7 +17,7 @@ pub(crate) const BARRED: u8 = 2;
 const KINDS: u8 = 3;
 
 // How many indices are held, and how many barred.
-#[derive(Drop)]
+#[derive(Clone, Copy)]
 pub enum MarksCounted {
     Counts(usize, usize),
     Refused(Reason),

@@ -16,7 +16,7 @@ use crate::session::marks::{ABSENT, BARRED, HELD};
 use crate::session::tallies::{Tallies, is_full, with_fresh, with_refusal, with_repeat};
 
 // What an offer came to: the block, and its place in the store; or the reason of a refusal.
-#[derive(Drop)]
+#[derive(Clone, Copy)]
 pub enum Verdict {
     Fresh(BlockNumber, BytePlace),
     Repeat(BlockNumber, BytePlace),
@@ -24,7 +24,7 @@ pub enum Verdict {
 }
 
 // The verdict, the tallies after it, where a refused chunk broke, and how many rebuilt columns still count.
-#[derive(Drop)]
+#[derive(Clone, Copy)]
 pub struct OfferAnswer {
     pub verdict: Verdict,
     pub tallies: Tallies,
@@ -51,10 +51,10 @@ enum Step {
 // One block meets a payload of its length.
 fn offer_block(block: &mut [u8], mark: u8, payload: &[u8]) -> Step
     requires { length block.old ≡ length payload.now }
-    ensures { ◌≡◌ {A = Stepped} (record { block = block.exit.now; step = result }) (stepped mark block.entry.now payload.now) }
+    ensures { ◌≡◌ {A = Stepped} (record { block = block.new; step = result }) (stepped mark block.old payload.now) }
 {
     if mark == ABSENT {
-        bytes::copy(payload, block);
+        little::copy(payload, block);
         return Step::Laid;
     }
     if mark == HELD {

@@ -14,7 +14,7 @@ const COUNTED: usize = 13;
 const MOST_OFFERS: u64 = 4294967295;
 
 // Refusals by number k are counted at k - 30.
-#[derive(Drop)]
+#[derive(Clone, Copy)]
 pub struct Tallies {
     pub fresh: u32,
     pub repeat: u32,

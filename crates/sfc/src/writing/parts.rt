@@ -45,7 +45,7 @@ pub(crate) fn put_padded(b: &[u8], d: &mut [u8])
     requires { length b.now ≤ length d.old }
     ensures { d.new ≡ padded (length d.old) b.now }
 {
-    bytes::copy(b, d);
+    little::copy(b, d);
     let end = b.len();
     little::clear8(&mut d[end..]);
 }
@@ -54,7 +54,7 @@ pub(crate) fn put_preamble(d: &mut [u8])
     requires { length d.old ≡ 8 }
     ensures { d.new ≡ preamble }
 {
-    bytes::copy(b"SFC\0", &mut d[0..4]);
+    little::copy(b"SFC\0", &mut d[0..4]);
     little::write16(d, 4, 0);
     little::write16(d, 6, 1);
 }
@@ -70,11 +70,11 @@ pub(crate) fn put_identity(
     requires { (length d.old ≡ 313) × (length name.now ≤ 255) }
     ensures { d.new ≡ identity_bytes uuid size format name.now digest }
 {
-    bytes::copy(&uuid, &mut d[0..UUID_ROOM]);
+    little::copy(&uuid, &mut d[0..UUID_ROOM]);
     little::write64(d, SIZE_PLACE, size);
     little::write16(d, FORMAT_PLACE, format);
     put_padded(name, &mut d[NAME_PLACE..HASH_PLACE]);
-    bytes::copy(&digest, &mut d[HASH_PLACE..IDENTITY]);
+    little::copy(&digest, &mut d[HASH_PLACE..IDENTITY]);
 }
 
 pub(crate) fn put_shape(n: u32, m: u32, s: u32, flags: u16, p: u16, d: &mut [u8])
@@ -85,7 +85,7 @@ pub(crate) fn put_shape(n: u32, m: u32, s: u32, flags: u16, p: u16, d: &mut [u8]
     little::write32(d, M_PLACE, m);
     little::write32(d, S_PLACE, s);
     let identifiers = [erasure_for(m), 0];
-    bytes::copy(&identifiers, &mut d[IDENTIFIERS_PLACE..FLAGS_PLACE]);
+    little::copy(&identifiers, &mut d[IDENTIFIERS_PLACE..FLAGS_PLACE]);
     little::write16(d, FLAGS_PLACE, flags);
     little::write16(d, PRIORITIES_PLACE, p);
 }
@@ -105,13 +105,13 @@ fn put_chunk_header(uuid: [u8; 16], n: u32, m: u32, s: u32, i: u32, d: &mut [u8]
     requires { length d.old ≡ 48 }
     ensures { d.new ≡ chunk_header uuid n m s i }
 {
-    bytes::copy(b"CHK\0", &mut d[0..CHUNK_UUID_AT]);
-    bytes::copy(&uuid, &mut d[CHUNK_UUID_AT..CHUNK_INDEX_AT]);
+    little::copy(b"CHK\0", &mut d[0..CHUNK_UUID_AT]);
+    little::copy(&uuid, &mut d[CHUNK_UUID_AT..CHUNK_INDEX_AT]);
     little::write32(d, CHUNK_INDEX_AT, i);
     little::write32(d, CHUNK_TYPE_AT, type_for(n, i));
     little::write32(d, CHUNK_LENGTH_AT, s);
     let identifiers = [0, erasure_for(m)];
-    bytes::copy(
+    little::copy(
         &identifiers,
         &mut d[CHUNK_COMPRESSION_AT..CHUNK_RESERVED_AT],
     );
@@ -126,8 +126,8 @@ fn seal(c: &mut [u8])
     let at = c.len() - CHUNK_TRAILER;
     let digest = blake3::hash(&c[..at]);
     let end = at + HASH_ROOM;
-    bytes::copy(&digest, &mut c[at..end]);
-    bytes::copy(b"/CHK", &mut c[end..]);
+    little::copy(&digest, &mut c[at..end]);
+    little::copy(b"/CHK", &mut c[end..]);
 }
 
 fn put_chunk(uuid: [u8; 16], n: u32, m: u32, s: u32, i: u32, payload: &[u8], c: &mut [u8])
@@ -136,7 +136,7 @@ fn put_chunk(uuid: [u8; 16], n: u32, m: u32, s: u32, i: u32, payload: &[u8], c: 
 {
     put_chunk_header(uuid, n, m, s, i, &mut c[0..CHUNK_HEADER]);
     let end = c.len() - CHUNK_TRAILER;
-    bytes::copy(payload, &mut c[CHUNK_HEADER..end]);
+    little::copy(payload, &mut c[CHUNK_HEADER..end]);
     seal(c);
 }
 
@@ -144,8 +144,8 @@ pub(crate) fn put_trailer(digest: [u8; 32], time: u64, d: &mut [u8])
     requires { length d.old ≡ 64 }
     ensures { d.new ≡ trailer_bytes digest time }
 {
-    bytes::copy(b"TRLR\0\0\0\0", &mut d[0..TRAILER_HASH_AT]);
-    bytes::copy(&digest, &mut d[TRAILER_HASH_AT..TRAILER_TIME_AT]);
+    little::copy(b"TRLR\0\0\0\0", &mut d[0..TRAILER_HASH_AT]);
+    little::copy(&digest, &mut d[TRAILER_HASH_AT..TRAILER_TIME_AT]);
     little::write64(d, TRAILER_TIME_AT, time);
     little::clear8(&mut d[TRAILER_RESERVED_AT..TRAILER]);
 }

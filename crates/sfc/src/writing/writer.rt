@@ -34,7 +34,7 @@ const FILE_BEFORE_LISTS: usize = REGION_AT + HEADER_BEFORE_LISTS;
 const FILE_BESIDE_LISTS_AND_CHUNKS: usize = FILE_BEFORE_LISTS + TRAILER;
 
 // What the caller says of a file, beside its content and the lists of its header: S and M, and fields that go in as given.
-#[derive(Drop)]
+#[derive(Clone, Copy)]
 pub struct FileFacts {
     pub s: u32,
     pub m: u32,
@@ -116,7 +116,7 @@ fn put_region(
     );
     let end = HEADER_BEFORE_LISTS + 4 * count;
     put_indices(priority, &mut r[HEADER_BEFORE_LISTS..end]);
-    bytes::copy(fields, &mut r[end..]);
+    little::copy(fields, &mut r[end..]);
 }
 
 // The file over all of `out`.
