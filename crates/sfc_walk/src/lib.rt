@@ -1,4 +1,6 @@
 // The walk over the chunks that stand one after the other in a file: each is offered to a session, whatever the offer answers.
+#![tactic(auto)]
+
 ghost use Rattle.std.specs.Prelude.{◌≡◌};
 ghost use Rattle.sfc.specs.session.Offer.{logged_of};
 ghost use Rattle.sfc_walk.specs.Walk.{front_length, walk_of, walk_over};
@@ -6,7 +8,7 @@ ghost use Rattle.sfc_walk.specs.Walk.{front_length, walk_of, walk_over};
 use sfc::{ChunkMeasured, ColumnCount, Head, Tallies, measure_chunk, offer};
 
 // The tallies, how many rebuilt columns still count, and the place of the first byte that belongs to no chunk.
-#[derive(Drop)]
+#[derive(Clone, Copy)]
 pub struct Walked {
     pub tallies: Tallies,
     pub finished: ColumnCount,
