@@ -1,4 +1,6 @@
 // The listing of an SFC file: what a program prints for any bytes that are offered as one.
+#![tactic(auto)]
+
 mod file;
 mod lines;
 mod refusals;

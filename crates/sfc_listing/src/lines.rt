@@ -19,7 +19,7 @@ fn put_text(text: &[u8], out: &mut [u8], at: usize) -> usize
     ensures { Appended (length text.now) out.old at text.now result out.new }
 {
     let end = at + text.len();
-    bytes::copy(text, &mut out[at..end]);
+    little::copy(text, &mut out[at..end]);
     end
 }
 

@@ -1,0 +1,10 @@
+-- `sfc_listing::lines::put_counts` meets its contract, piece by piece. Assumes nothing.
+use Rattle.sfc_listing.specs.Text.{text}
+use Rattle.sfc_listing.proofs.LineLaws.{counts-made}
+use Rattle.sfc_listing.proofs.lines.put_counts.Goals as goal
+
+pub returns : goal.returns
+unfolding text
+returns c =
+    let a = c.args in
+    counts-made a.held a.barred c.requires c.put_value-after.ensures c.put_value-end.ensures c.put_text.ensures
