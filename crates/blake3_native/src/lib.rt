@@ -1,4 +1,6 @@
 // The hash under a C name, for programs in other languages and for measuring (bench/blake3.sh).
+#![tactic(auto)]
+
 ghost use Rattle.std.specs.Prelude.{◌≡◌};
 ghost use Rattle.blake3_native.specs.Into.{hash_into};
 
@@ -9,6 +11,6 @@ pub extern "C" fn embercymbal_blake3(input: &[u8], out: &mut [u8])
 {
     let hash = blake3::hash(input);
     if out.len() == 32 {
-        bytes::copy(&hash, out);
+        little::copy(&hash, out);
     }
 }

@@ -1,4 +1,6 @@
 // The calls of `cauchy` under C names, for programs in other languages and for measuring: an answer goes out as document 01's number.
+#![tactic(auto)]
+
 ghost use Rattle.std.specs.Prelude.{◌≡◌};
 ghost use Rattle.cauchy.specs.Calls.{recovery_spec, four_spec, rebuild_all_spec};
 ghost use Rattle.cauchy_native.specs.Number.{number_of, recovery_left, numbered_recovery, rebuild_left, numbered_rebuild};

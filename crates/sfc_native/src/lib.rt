@@ -1,4 +1,6 @@
 // Turn, release and writer under C names, for programs in other languages and for measuring: an answer goes out as a number.
+#![tactic(auto)]
+
 ghost use Rattle.std.specs.Prelude.{◌≡◌};
 ghost use Rattle.sfc.specs.answer.Numbers.{answered};
 ghost use Rattle.sfc.specs.writing.Writer.{write_file};

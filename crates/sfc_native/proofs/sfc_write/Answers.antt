@@ -6,16 +6,12 @@ use borrow.Author.Rules.{rules}
 use Rattle.sfc.specs.answer.Numbers.{Answered, answered}
 use Rattle.sfc.specs.declared.answer.written.Written.{Written}
 use Rattle.sfc_native.specs.Answers.{length_for, measured}
-use Rattle.sfc_native.proofs.sfc_write.Statement.{statement}
-use Rattle.sfc_native.proofs.sfc_write.Tie as tie
+use Rattle.sfc_native.proofs.sfc_write.Goals as goal
 
 -- the answer's number beside the output
 with_number : (k : ℕ) (answer : Written) (out : List ℕ) (promised : Answered Written) → k ≡ length_for answer → answered answer out ≡ promised
     → answered k out ≡ measured promised
 with_number k answer out promised e written = ap (λ (n : ℕ). answered n out) e ∙ ap measured written
 
-returns : tie.Need-returns
-returns c = with_number _ _ _ _ c.length-or-number.ensures c.before.before.before.write.ensures
-
-pub sfc-write-spec : {M : Type 1} → statement M
-sfc-write-spec = tie.close (tie.spec (λ c κs. search rules) (λ c κs. search rules) (λ c. search rules) returns)
+pub returns : goal.returns
+returns c = with_number _ _ _ _ c.length_or_number.ensures c.write.ensures
