@@ -1,23 +1,27 @@
 // Prints the hashes of the bytes i mod 251 at the published lengths, at once (`LENGTH HEX`) and fed part by part
 // (`LENGTH CUT HEX`): first by value in parts of CUT bytes, then in place in two parts.
+#![tactic(auto)]
+
 ghost use Rattle.std.specs.Prelude.{◌<◌};
+
+use std::io;
 
 fn wide(x: u8) -> u64 {
     x as u64
 }
 
-fn print_hash(hash: [u8; 32]) {
+fn print_hash(rt: &impl Print, hash: [u8; 32]) -> io::Result<()> {
     let mut j: usize = 0;
     while j < 32 {
-        io::print_hex(1, wide(hash[j]), 2);
+        let x = wide(hash[j]);
+        print!(rt; "{x:02x}")?;
         j += 1;
     }
-    io::write_all(1, b"\n");
+    println!(rt;)
 }
 
-fn print_length(n: usize) {
-    io::print_decimal(1, n as u64);
-    io::write_all(1, b" ");
+fn print_length(rt: &impl Print, n: usize) -> io::Result<()> {
+    print!(rt; "{n} ")
 }
 
 fn pattern(i: usize) -> u8 {
@@ -57,92 +61,94 @@ fn in_place(text: &[u8], cut: usize) -> [u8; 32] {
     end.hash
 }
 
-fn at_once(text: &[u8], n: usize) {
+fn at_once(rt: &impl Print, text: &[u8], n: usize) -> io::Result<()> {
     if n <= text.len() {
-        print_length(n);
-        print_hash(blake3::hash(&text[..n]));
+        print_length(rt, n)?;
+        print_hash(rt, blake3::hash(&text[..n]))?;
     }
+    Ok(())
 }
 
-fn in_parts(text: &[u8], n: usize, cut: usize)
+fn in_parts(rt: &impl Print, text: &[u8], n: usize, cut: usize) -> io::Result<()>
     requires { 0 < cut }
 {
     if n <= text.len() {
-        print_length(n);
-        print_length(cut);
-        print_hash(by_value(&text[..n], cut));
-        print_length(n);
-        print_length(cut);
-        print_hash(in_place(&text[..n], cut));
+        print_length(rt, n)?;
+        print_length(rt, cut)?;
+        print_hash(rt, by_value(&text[..n], cut))?;
+        print_length(rt, n)?;
+        print_length(rt, cut)?;
+        print_hash(rt, in_place(&text[..n], cut))?;
     }
+    Ok(())
 }
 
-fn short_texts(text: &[u8]) {
-    at_once(text, 0);
-    at_once(text, 1);
-    at_once(text, 2);
-    at_once(text, 3);
-    at_once(text, 4);
-    at_once(text, 5);
-    at_once(text, 6);
-    at_once(text, 7);
-    at_once(text, 8);
-    at_once(text, 63);
-    at_once(text, 64);
-    at_once(text, 65);
-    at_once(text, 127);
-    at_once(text, 128);
-    at_once(text, 129);
-    at_once(text, 1023);
-    at_once(text, 1024);
+fn short_texts(rt: &impl Print, text: &[u8]) -> io::Result<()> {
+    at_once(rt, text, 0)?;
+    at_once(rt, text, 1)?;
+    at_once(rt, text, 2)?;
+    at_once(rt, text, 3)?;
+    at_once(rt, text, 4)?;
+    at_once(rt, text, 5)?;
+    at_once(rt, text, 6)?;
+    at_once(rt, text, 7)?;
+    at_once(rt, text, 8)?;
+    at_once(rt, text, 63)?;
+    at_once(rt, text, 64)?;
+    at_once(rt, text, 65)?;
+    at_once(rt, text, 127)?;
+    at_once(rt, text, 128)?;
+    at_once(rt, text, 129)?;
+    at_once(rt, text, 1023)?;
+    at_once(rt, text, 1024)
 }
 
-fn long_texts(text: &[u8]) {
-    at_once(text, 1025);
-    at_once(text, 2048);
-    at_once(text, 2049);
-    at_once(text, 3072);
-    at_once(text, 3073);
-    at_once(text, 4096);
-    at_once(text, 4097);
-    at_once(text, 5120);
-    at_once(text, 5121);
-    at_once(text, 6144);
-    at_once(text, 6145);
-    at_once(text, 7168);
-    at_once(text, 7169);
-    at_once(text, 8192);
-    at_once(text, 8193);
-    at_once(text, 16384);
-    at_once(text, 31744);
-    at_once(text, 102400);
+fn long_texts(rt: &impl Print, text: &[u8]) -> io::Result<()> {
+    at_once(rt, text, 1025)?;
+    at_once(rt, text, 2048)?;
+    at_once(rt, text, 2049)?;
+    at_once(rt, text, 3072)?;
+    at_once(rt, text, 3073)?;
+    at_once(rt, text, 4096)?;
+    at_once(rt, text, 4097)?;
+    at_once(rt, text, 5120)?;
+    at_once(rt, text, 5121)?;
+    at_once(rt, text, 6144)?;
+    at_once(rt, text, 6145)?;
+    at_once(rt, text, 7168)?;
+    at_once(rt, text, 7169)?;
+    at_once(rt, text, 8192)?;
+    at_once(rt, text, 8193)?;
+    at_once(rt, text, 16384)?;
+    at_once(rt, text, 31744)?;
+    at_once(rt, text, 102400)
 }
 
-fn cut_texts(text: &[u8]) {
-    in_parts(text, 0, 1);
-    in_parts(text, 1, 1);
-    in_parts(text, 64, 63);
-    in_parts(text, 65, 64);
-    in_parts(text, 1023, 1);
-    in_parts(text, 1024, 1024);
-    in_parts(text, 1025, 1024);
-    in_parts(text, 1025, 63);
-    in_parts(text, 2048, 1023);
-    in_parts(text, 2049, 1024);
-    in_parts(text, 3073, 1025);
-    in_parts(text, 4096, 2048);
-    in_parts(text, 4097, 100);
-    in_parts(text, 5121, 4096);
-    in_parts(text, 8193, 700);
-    in_parts(text, 16384, 1024);
-    in_parts(text, 31744, 3000);
-    in_parts(text, 102400, 65536);
+fn cut_texts(rt: &impl Print, text: &[u8]) -> io::Result<()> {
+    in_parts(rt, text, 0, 1)?;
+    in_parts(rt, text, 1, 1)?;
+    in_parts(rt, text, 64, 63)?;
+    in_parts(rt, text, 65, 64)?;
+    in_parts(rt, text, 1023, 1)?;
+    in_parts(rt, text, 1024, 1024)?;
+    in_parts(rt, text, 1025, 1024)?;
+    in_parts(rt, text, 1025, 63)?;
+    in_parts(rt, text, 2048, 1023)?;
+    in_parts(rt, text, 2049, 1024)?;
+    in_parts(rt, text, 3073, 1025)?;
+    in_parts(rt, text, 4096, 2048)?;
+    in_parts(rt, text, 4097, 100)?;
+    in_parts(rt, text, 5121, 4096)?;
+    in_parts(rt, text, 8193, 700)?;
+    in_parts(rt, text, 16384, 1024)?;
+    in_parts(rt, text, 31744, 3000)?;
+    in_parts(rt, text, 102400, 65536)
 }
 
-fn main() {
+fn main(rt: HostRuntime) -> io::Result<()> {
     let mut text = [0u8; 102400];
     fill(&mut text);
-    short_texts(&text);
-    long_texts(&text);
-    cut_texts(&text);
+    short_texts(&rt, &text)?;
+    long_texts(&rt, &text)?;
+    cut_texts(&rt, &text)
 }

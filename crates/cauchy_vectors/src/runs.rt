@@ -6,7 +6,7 @@ use crate::fillers::{
     mark_each_33, mark_range, mixed,
 };
 use cauchy::Answer;
-use libc::STDOUT_FILENO;
+use std::io;
 
 // 0 for done, and document 01's number for a refusal.
 pub(crate) fn number_of(answer: Answer) -> u64 {
@@ -17,50 +17,53 @@ pub(crate) fn number_of(answer: Answer) -> u64 {
     }
 }
 
-pub(crate) fn word(text: &[u8]) {
-    io::write_all(STDOUT_FILENO, text);
+pub(crate) fn word(rt: &impl Print, text: &str) -> io::Result<()> {
+    print!(rt; "{text}")
 }
 
-fn decimal(n: usize) {
-    io::print_decimal(STDOUT_FILENO, n as u64);
+fn decimal(rt: &impl Print, n: usize) -> io::Result<()> {
+    print!(rt; "{n}")
 }
 
-pub(crate) fn labelled(text: &[u8], n: usize) {
-    word(text);
-    decimal(n);
+pub(crate) fn labelled(rt: &impl Print, text: &str, n: usize) -> io::Result<()> {
+    word(rt, text)?;
+    decimal(rt, n)
 }
 
-pub(crate) fn hex8(n: u64) {
-    io::print_hex(STDOUT_FILENO, n, 8);
+pub(crate) fn hex8(rt: &impl Print, n: u64) -> io::Result<()> {
+    print!(rt; "{n:08x}")
 }
 
 // The end of a line.
-pub(crate) fn hex_line(n: u64) {
-    hex8(n);
-    word(b"\n");
+pub(crate) fn hex_line(rt: &impl Print, n: u64) -> io::Result<()> {
+    hex8(rt, n)?;
+    word(rt, "\n")
 }
 
-fn hex2(x: u8) {
-    io::print_hex(STDOUT_FILENO, x as u64, 2);
+fn hex2(rt: &impl Print, x: u8) -> io::Result<()> {
+    print!(rt; "{x:02x}")
 }
 
-fn hex_bytes(bytes: &[u8]) {
+fn hex_bytes(rt: &impl Print, bytes: &[u8]) -> io::Result<()> {
     let mut i: usize = 0;
     while i < bytes.len() {
-        hex2(bytes[i]);
+        hex2(rt, bytes[i])?;
         i += 1;
     }
+    Ok(())
 }
 
 // A call that has to go well: a refusal would spoil the output.
-pub(crate) fn expect_done(answer: Answer) {
+pub(crate) fn expect_done(rt: &impl Print, answer: Answer) -> io::Result<()> {
     if number_of(answer) != 0 {
-        word(b"refused\n");
+        word(rt, "refused\n")?;
     }
+    Ok(())
 }
 
 // Recovery block k, from place `at` of the whole store on if it lies inside; the answer is the place after it.
 fn put_recovery(
+    rt: &impl Print,
     n: usize,
     m: usize,
     s: usize,
@@ -68,27 +71,38 @@ fn put_recovery(
     content: &[u8],
     whole: &mut [u8],
     at: usize,
-) -> usize {
+) -> io::Result<usize> {
     if whole.len() < at {
-        return at;
+        return Ok(at);
     }
     if whole.len() - at < s {
-        return at;
+        return Ok(at);
     }
     let end = at + s;
-    expect_done(cauchy::recovery(n, m, s, k, content, &mut whole[at..end]));
-    end
+    expect_done(
+        rt,
+        cauchy::recovery(n, m, s, k, content, &mut whole[at..end]),
+    )?;
+    Ok(end)
 }
 
 // The data blocks, and after them their recovery blocks.
-pub(crate) fn encode(n: usize, m: usize, s: usize, content: &[u8], whole: &mut [u8]) {
+pub(crate) fn encode(
+    rt: &impl Print,
+    n: usize,
+    m: usize,
+    s: usize,
+    content: &[u8],
+    whole: &mut [u8],
+) -> io::Result<()> {
     copy(content, whole);
     let mut at = content.len();
     let mut k: usize = 0;
     while k < m {
-        at = put_recovery(n, m, s, k, content, whole, at);
+        at = put_recovery(rt, n, m, s, k, content, whole, at)?;
         k += 1;
     }
+    Ok(())
 }
 
 // The store is damaged by the marks and rebuilt; the digest takes in the answer and all lent memory.
@@ -111,7 +125,7 @@ fn rebuilt(
 }
 
 // The line of one withheld set of the code with three data and two recovery blocks.
-fn show_set(mask: u64, whole: &[u8]) {
+fn show_set(rt: &impl Print, mask: u64, whole: &[u8]) -> io::Result<()> {
     let mut marks = [0u8; 5];
     let mut store = [0u8; 20];
     let mut scratch = [0u8; 8];
@@ -128,28 +142,29 @@ fn show_set(mask: u64, whole: &[u8]) {
         &mut scratch,
         &mut numbers,
     );
-    word(b"3+2 without ");
-    hex8(mask);
-    word(b": ");
-    hex_bytes(&scratch);
-    word(b" ");
-    hex_line(digest);
+    word(rt, "3+2 without ")?;
+    hex8(rt, mask)?;
+    word(rt, ": ")?;
+    hex_bytes(rt, &scratch)?;
+    word(rt, " ")?;
+    hex_line(rt, digest)
 }
 
-fn show_sets(whole: &[u8]) {
+fn show_sets(rt: &impl Print, whole: &[u8]) -> io::Result<()> {
     let mut mask: u64 = 0;
     while mask < 32 {
-        show_set(mask, whole);
+        show_set(rt, mask, whole)?;
         mask += 1;
     }
+    Ok(())
 }
 
-pub(crate) fn three_and_two() {
+pub(crate) fn three_and_two(rt: &impl Print) -> io::Result<()> {
     let mut content = [0u8; 12];
     let mut whole = [0u8; 20];
     fill(&mut content, 1);
-    encode(3, 2, 4, &content, &mut whole);
-    show_sets(&whole);
+    encode(rt, 3, 2, 4, &content, &mut whole)?;
+    show_sets(rt, &whole)
 }
 
 // The longest store that is cut to size here has fifteen blocks of 66 bytes.
@@ -207,92 +222,102 @@ fn power(k: usize) -> u64 {
     1 << (k as u64 % 32)
 }
 
-fn small_code(n: usize, m: usize) {
+fn small_code(rt: &impl Print, n: usize, m: usize) -> io::Result<()> {
     if 8 < n {
-        return;
+        return Ok(());
     }
     if 4 < m {
-        return;
+        return Ok(());
     }
     let mut content = [0u8; 32];
     let mut whole = [0u8; 48];
     fill(&mut content, 1);
-    encode(n, m, 4, &content[..n * 4], &mut whole);
+    encode(rt, n, m, 4, &content[..n * 4], &mut whole)?;
     let digest = every_set(n, m, power(n + m), &whole);
-    decimal(n);
-    labelled(b"+", m);
-    word(b" without every set: ");
-    hex_line(digest);
+    decimal(rt, n)?;
+    labelled(rt, "+", m)?;
+    word(rt, " without every set: ")?;
+    hex_line(rt, digest)
 }
 
 // Each code of one to eight data and up to four recovery blocks.
-pub(crate) fn small_codes() {
+pub(crate) fn small_codes(rt: &impl Print) -> io::Result<()> {
     let mut i: usize = 0;
     while i < 40 {
-        small_code(1 + i / 5, i % 5);
+        small_code(rt, 1 + i / 5, i % 5)?;
         i += 1;
     }
+    Ok(())
 }
 
-fn show_full(label: &[u8], whole: &[u8], marks: &[u8]) {
+fn show_full(rt: &impl Print, label: &str, whole: &[u8], marks: &[u8]) -> io::Result<()> {
     let mut store = [0u8; 4224];
     let mut scratch = [0u8; 128];
     let mut numbers = [0u16; 1024];
-    word(b"1024+32 without ");
-    word(label);
-    word(b": ");
-    hex_line(rebuilt(
-        1024,
-        32,
-        4,
-        1,
-        whole,
-        marks,
-        &mut store,
-        &mut scratch,
-        &mut numbers,
-    ));
+    word(rt, "1024+32 without ")?;
+    word(rt, label)?;
+    word(rt, ": ")?;
+    hex_line(
+        rt,
+        rebuilt(
+            1024,
+            32,
+            4,
+            1,
+            whole,
+            marks,
+            &mut store,
+            &mut scratch,
+            &mut numbers,
+        ),
+    )
 }
 
-fn full_range(label: &[u8], whole: &[u8], from: usize, to: usize) {
+fn full_range(
+    rt: &impl Print,
+    label: &str,
+    whole: &[u8],
+    from: usize,
+    to: usize,
+) -> io::Result<()> {
     let mut marks = [0u8; 1056];
     mark_range(&mut marks, from, to);
-    show_full(label, whole, &marks);
+    show_full(rt, label, whole, &marks)
 }
 
-fn full_each_33(label: &[u8], whole: &[u8], first: usize) {
+fn full_each_33(rt: &impl Print, label: &str, whole: &[u8], first: usize) -> io::Result<()> {
     let mut marks = [0u8; 1056];
     mark_each_33(&mut marks, first);
-    show_full(label, whole, &marks);
+    show_full(rt, label, whole, &marks)
 }
 
 // The largest code of document 01, in blocks of four bytes.
-pub(crate) fn full_code() {
+pub(crate) fn full_code(rt: &impl Print) -> io::Result<()> {
     let mut content = [0u8; 4096];
     let mut whole = [0u8; 4224];
     fill(&mut content, 1);
-    encode(1024, 32, 4, &content, &mut whole);
-    word(b"1024+32 whole: ");
-    hex_line(digest_bytes(1, &whole));
-    full_range(b"the first 32", &whole, 0, 32);
-    full_range(b"the last 32 data", &whole, 992, 1024);
-    full_range(b"24 data and 8 recovery", &whole, 1000, 1032);
-    full_each_33(b"each 33rd", &whole, 7);
-    full_range(b"the first 33", &whole, 0, 33);
+    encode(rt, 1024, 32, 4, &content, &mut whole)?;
+    word(rt, "1024+32 whole: ")?;
+    hex_line(rt, digest_bytes(1, &whole))?;
+    full_range(rt, "the first 32", &whole, 0, 32)?;
+    full_range(rt, "the last 32 data", &whole, 992, 1024)?;
+    full_range(rt, "24 data and 8 recovery", &whole, 1000, 1032)?;
+    full_each_33(rt, "each 33rd", &whole, 7)?;
+    full_range(rt, "the first 33", &whole, 0, 33)
 }
 
 // Three data and two recovery blocks of 64 bytes.
-pub(crate) fn wide_code() {
+pub(crate) fn wide_code(rt: &impl Print) -> io::Result<()> {
     let mut content = [0u8; 192];
     let mut whole = [0u8; 320];
     fill(&mut content, 1);
-    encode(3, 2, 64, &content, &mut whole);
-    word(b"3+2 of 64 bytes without 1 and 2: ");
-    hex_line(small_set(3, 2, 64, 0b110, 1, &whole));
+    encode(rt, 3, 2, 64, &content, &mut whole)?;
+    word(rt, "3+2 of 64 bytes without 1 and 2: ")?;
+    hex_line(rt, small_set(3, 2, 64, 0b110, 1, &whole))
 }
 
 // The same of 514 bytes, a longer range than those that are solved in a short room.
-pub(crate) fn long_code() {
+pub(crate) fn long_code(rt: &impl Print) -> io::Result<()> {
     let mut content = [0u8; 1542];
     let mut whole = [0u8; 2570];
     let mut marks = [0u8; 5];
@@ -300,32 +325,41 @@ pub(crate) fn long_code() {
     let mut scratch = [0u8; 1028];
     let mut numbers = [0u16; 1024];
     fill(&mut content, 1);
-    encode(3, 2, 514, &content, &mut whole);
+    encode(rt, 3, 2, 514, &content, &mut whole)?;
     mark_by_mask(&mut marks, 0b110);
-    word(b"3+2 of 514 bytes without 1 and 2: ");
-    hex_line(rebuilt(
-        3,
-        2,
-        514,
-        1,
-        &whole,
-        &marks,
-        &mut store,
-        &mut scratch,
-        &mut numbers,
-    ));
+    word(rt, "3+2 of 514 bytes without 1 and 2: ")?;
+    hex_line(
+        rt,
+        rebuilt(
+            3,
+            2,
+            514,
+            1,
+            &whole,
+            &marks,
+            &mut store,
+            &mut scratch,
+            &mut numbers,
+        ),
+    )
 }
 
 // The beginning of a line on a range of columns.
-pub(crate) fn columns(code: &[u8], first: usize, count: usize) {
-    word(code);
-    labelled(b" bytes, columns ", first);
-    labelled(b" and ", count);
-    word(b": ");
+pub(crate) fn columns(rt: &impl Print, code: &str, first: usize, count: usize) -> io::Result<()> {
+    word(rt, code)?;
+    labelled(rt, " bytes, columns ", first)?;
+    labelled(rt, " and ", count)?;
+    word(rt, ": ")
 }
 
 // One range of columns: what is not asked for stays dirty.
-fn show_range(first: usize, count: usize, marks: &[u8], store: &[u8]) {
+fn show_range(
+    rt: &impl Print,
+    first: usize,
+    count: usize,
+    marks: &[u8],
+    store: &[u8],
+) -> io::Result<()> {
     let mut scratch = [0u8; 24];
     let mut numbers = [0u16; 1024];
     dirty(&mut scratch);
@@ -341,30 +375,31 @@ fn show_range(first: usize, count: usize, marks: &[u8], store: &[u8]) {
         first,
         count,
     ));
-    columns(b"5+3 of 8", first, count);
-    hex8(digest_numbers(mixed(1, answer), &numbers));
-    word(b" ");
-    hex_bytes(&scratch);
-    word(b"\n");
+    columns(rt, "5+3 of 8", first, count)?;
+    hex8(rt, digest_numbers(mixed(1, answer), &numbers))?;
+    word(rt, " ")?;
+    hex_bytes(rt, &scratch)?;
+    word(rt, "\n")
 }
 
-fn show_ranges(marks: &[u8], store: &[u8]) {
+fn show_ranges(rt: &impl Print, marks: &[u8], store: &[u8]) -> io::Result<()> {
     let mut i: usize = 0;
     while i < 36 {
-        show_range(i / 6, i % 6, marks, store);
+        show_range(rt, i / 6, i % 6, marks, store)?;
         i += 1;
     }
+    Ok(())
 }
 
 // Every range of the four columns of a code of eight bytes a block, and ranges that are too long.
-pub(crate) fn column_ranges() {
+pub(crate) fn column_ranges(rt: &impl Print) -> io::Result<()> {
     let mut content = [0u8; 40];
     let mut whole = [0u8; 64];
     let mut marks = [0u8; 8];
     let mut store = [0u8; 64];
     fill(&mut content, 1);
-    encode(5, 3, 8, &content, &mut whole);
+    encode(rt, 5, 3, 8, &content, &mut whole)?;
     mark_by_mask(&mut marks, 0b00101001);
     damage(&whole, &marks, 8, &mut store);
-    show_ranges(&marks, &store);
+    show_ranges(rt, &marks, &store)
 }

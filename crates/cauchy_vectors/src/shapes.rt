@@ -2,56 +2,57 @@
 use crate::fillers::{digest_bytes, dirty, fill};
 use crate::odd::four_of;
 use crate::runs::{hex_line, labelled, number_of, word};
-use libc::STDOUT_FILENO;
+use std::io;
 
 // The beginning of a line: a call, the shape, and which recovery block is asked for.
-fn asked(call: &[u8], n: usize, m: usize, s: usize, k: usize) {
-    labelled(call, n);
-    labelled(b" ", m);
-    labelled(b" ", s);
-    labelled(b" ", k);
+fn asked(rt: &impl Print, call: &str, n: usize, m: usize, s: usize, k: usize) -> io::Result<()> {
+    labelled(rt, call, n)?;
+    labelled(rt, " ", m)?;
+    labelled(rt, " ", s)?;
+    labelled(rt, " ", k)
 }
 
 // The end of a line: the answer, and a digest of what was lent.
-fn left(answer: u64, digest: u64) {
-    word(b": ");
-    io::print_decimal(STDOUT_FILENO, answer);
-    word(b" ");
-    hex_line(digest);
+fn left(rt: &impl Print, answer: u64, digest: u64) -> io::Result<()> {
+    word(rt, ": ")?;
+    print!(rt; "{answer}")?;
+    word(rt, " ")?;
+    hex_line(rt, digest)
 }
 
 // Twelve bytes of data and a block of four are lent.
-fn show_recovery(n: usize, m: usize, s: usize, k: usize) {
+fn show_recovery(rt: &impl Print, n: usize, m: usize, s: usize, k: usize) -> io::Result<()> {
     let mut content = [0u8; 12];
     let mut out = [0u8; 4];
     fill(&mut content, 1);
     dirty(&mut out);
     let answer = number_of(cauchy::recovery(n, m, s, k, &content, &mut out));
-    asked(b"recovery ", n, m, s, k);
-    left(answer, digest_bytes(1, &out));
+    asked(rt, "recovery ", n, m, s, k)?;
+    left(rt, answer, digest_bytes(1, &out))
 }
 
-pub(crate) fn recoveries() {
-    show_recovery(3, 2, 4, 1);
-    show_recovery(3, 2, 4, 2);
-    show_recovery(0, 2, 4, 1);
-    show_recovery(1025, 2, 4, 1);
-    show_recovery(3, 33, 4, 1);
-    show_recovery(3, 32, 4, 31);
-    show_recovery(3, 2, 0, 1);
-    show_recovery(4, 2, 3, 1);
-    show_recovery(2, 2, 6, 1);
-    show_recovery(3, 2, 4098, 1);
-    show_recovery(2, 2, 4, 1);
+pub(crate) fn recoveries(rt: &impl Print) -> io::Result<()> {
+    show_recovery(rt, 3, 2, 4, 1)?;
+    show_recovery(rt, 3, 2, 4, 2)?;
+    show_recovery(rt, 0, 2, 4, 1)?;
+    show_recovery(rt, 1025, 2, 4, 1)?;
+    show_recovery(rt, 3, 33, 4, 1)?;
+    show_recovery(rt, 3, 32, 4, 31)?;
+    show_recovery(rt, 3, 2, 0, 1)?;
+    show_recovery(rt, 4, 2, 3, 1)?;
+    show_recovery(rt, 2, 2, 6, 1)?;
+    show_recovery(rt, 3, 2, 4098, 1)?;
+    show_recovery(rt, 2, 2, 4, 1)
 }
 
-fn lengths(front: usize, last: usize, out: usize) {
-    labelled(b" front ", front);
-    labelled(b" last ", last);
-    labelled(b" out ", out);
+fn lengths(rt: &impl Print, front: usize, last: usize, out: usize) -> io::Result<()> {
+    labelled(rt, " front ", front)?;
+    labelled(rt, " last ", last)?;
+    labelled(rt, " out ", out)
 }
 
 fn show_blocks(
+    rt: &impl Print,
     n: usize,
     m: usize,
     s: usize,
@@ -59,29 +60,39 @@ fn show_blocks(
     content: &[u8],
     front: usize,
     out: &mut [u8],
-) {
+) -> io::Result<()> {
     dirty(out);
     let answer = number_of(four_of(n, m, s, k, content, front, out));
-    left(answer, digest_bytes(1, out));
+    left(rt, answer, digest_bytes(1, out))
 }
 
 // The last three numbers are the lengths of `front`, of `last` and of `out`: up to 8, 4 and 16 bytes are lent.
-fn show_four(n: usize, m: usize, s: usize, k: usize, front: usize, last: usize, room: usize) {
+fn show_four(
+    rt: &impl Print,
+    n: usize,
+    m: usize,
+    s: usize,
+    k: usize,
+    front: usize,
+    last: usize,
+    room: usize,
+) -> io::Result<()> {
     if 8 < front {
-        return;
+        return Ok(());
     }
     if 4 < last {
-        return;
+        return Ok(());
     }
     if 16 < room {
-        return;
+        return Ok(());
     }
-    asked(b"recovery_four ", n, m, s, k);
-    lengths(front, last, room);
+    asked(rt, "recovery_four ", n, m, s, k)?;
+    lengths(rt, front, last, room)?;
     let mut content = [0u8; 12];
     let mut out = [0u8; 16];
     fill(&mut content, 1);
     show_blocks(
+        rt,
         n,
         m,
         s,
@@ -89,31 +100,31 @@ fn show_four(n: usize, m: usize, s: usize, k: usize, front: usize, last: usize, 
         &content[..front + last],
         front,
         &mut out[..room],
-    );
+    )
 }
 
-pub(crate) fn fours() {
-    show_four(3, 5, 4, 0, 8, 4, 16);
-    show_four(3, 7, 4, 4, 8, 4, 12);
-    show_four(3, 32, 4, 31, 8, 4, 4);
-    show_four(1, 4, 4, 0, 0, 4, 16);
-    show_four(3, 4, 4, 4, 8, 4, 0);
-    show_four(3, 4, 4, 5, 8, 4, 16);
-    show_four(3, 5, 4, 0, 4, 4, 16);
-    show_four(3, 5, 4, 0, 8, 2, 16);
-    show_four(3, 7, 4, 4, 8, 4, 16);
-    show_four(3, 8, 4, 4, 8, 4, 12);
-    show_four(3, 0, 4, 0, 8, 4, 0);
-    show_four(3, 5, 3, 0, 6, 3, 12);
-    show_four(3, 5, 0, 0, 0, 0, 0);
-    show_four(0, 5, 4, 0, 0, 4, 16);
-    show_four(3, 5, 4098, 0, 8, 4, 16);
-    show_four(1025, 5, 4, 0, 8, 4, 16);
-    show_four(3, 33, 4, 0, 8, 4, 16);
+pub(crate) fn fours(rt: &impl Print) -> io::Result<()> {
+    show_four(rt, 3, 5, 4, 0, 8, 4, 16)?;
+    show_four(rt, 3, 7, 4, 4, 8, 4, 12)?;
+    show_four(rt, 3, 32, 4, 31, 8, 4, 4)?;
+    show_four(rt, 1, 4, 4, 0, 0, 4, 16)?;
+    show_four(rt, 3, 4, 4, 4, 8, 4, 0)?;
+    show_four(rt, 3, 4, 4, 5, 8, 4, 16)?;
+    show_four(rt, 3, 5, 4, 0, 4, 4, 16)?;
+    show_four(rt, 3, 5, 4, 0, 8, 2, 16)?;
+    show_four(rt, 3, 7, 4, 4, 8, 4, 16)?;
+    show_four(rt, 3, 8, 4, 4, 8, 4, 12)?;
+    show_four(rt, 3, 0, 4, 0, 8, 4, 0)?;
+    show_four(rt, 3, 5, 3, 0, 6, 3, 12)?;
+    show_four(rt, 3, 5, 0, 0, 0, 0, 0)?;
+    show_four(rt, 0, 5, 4, 0, 0, 4, 16)?;
+    show_four(rt, 3, 5, 4098, 0, 8, 4, 16)?;
+    show_four(rt, 1025, 5, 4, 0, 8, 4, 16)?;
+    show_four(rt, 3, 33, 4, 0, 8, 4, 16)
 }
 
 // Five held marks, a store of twenty bytes and scratch of eight are lent.
-fn show_rebuild(n: usize, m: usize, s: usize) {
+fn show_rebuild(rt: &impl Print, n: usize, m: usize, s: usize) -> io::Result<()> {
     let marks = [1u8; 5];
     let mut store = [0u8; 20];
     let mut scratch = [0u8; 8];
@@ -129,19 +140,19 @@ fn show_rebuild(n: usize, m: usize, s: usize) {
         &mut scratch,
         &mut numbers,
     ));
-    labelled(b"rebuild ", n);
-    labelled(b" ", m);
-    labelled(b" ", s);
-    left(answer, digest_bytes(1, &scratch));
+    labelled(rt, "rebuild ", n)?;
+    labelled(rt, " ", m)?;
+    labelled(rt, " ", s)?;
+    left(rt, answer, digest_bytes(1, &scratch))
 }
 
-pub(crate) fn rebuilds() {
-    show_rebuild(3, 2, 4);
-    show_rebuild(2, 3, 4);
-    show_rebuild(0, 5, 4);
-    show_rebuild(5, 0, 4);
-    show_rebuild(3, 2, 3);
-    show_rebuild(3, 33, 4);
-    show_rebuild(1025, 2, 4);
-    show_rebuild(3, 2, 4098);
+pub(crate) fn rebuilds(rt: &impl Print) -> io::Result<()> {
+    show_rebuild(rt, 3, 2, 4)?;
+    show_rebuild(rt, 2, 3, 4)?;
+    show_rebuild(rt, 0, 5, 4)?;
+    show_rebuild(rt, 5, 0, 4)?;
+    show_rebuild(rt, 3, 2, 3)?;
+    show_rebuild(rt, 3, 33, 4)?;
+    show_rebuild(rt, 1025, 2, 4)?;
+    show_rebuild(rt, 3, 2, 4098)
 }

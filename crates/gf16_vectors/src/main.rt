@@ -1,29 +1,31 @@
 // Prints what the field answers, for comparison with the second program: the worked values, every inverse in digests,
 // and ten thousand products.
-use libc::STDOUT_FILENO;
+#![tactic(auto)]
 
-fn line_end() {
-    io::write_all(STDOUT_FILENO, b"\n");
+use std::io;
+
+fn line_end(rt: &impl Print) -> io::Result<()> {
+    println!(rt;)
 }
 
-fn hex4(x: u16) {
-    io::print_hex(STDOUT_FILENO, x as u64, 4);
+fn hex4(rt: &impl Print, x: u16) -> io::Result<()> {
+    print!(rt; "{x:04x}")
 }
 
-fn product(label: &[u8], a: u16, b: u16) {
-    io::write_all(STDOUT_FILENO, label);
-    hex4(gf16::mul(a, b));
-    line_end();
+fn product(rt: &impl Print, label: &str, a: u16, b: u16) -> io::Result<()> {
+    print!(rt; "{label}")?;
+    hex4(rt, gf16::mul(a, b))?;
+    line_end(rt)
 }
 
-fn worked() {
-    product(b"C1 ", 2, 0x8016);
-    product(b"C2 ", 3, 0x8016);
-    product(b"C3 ", 4, 0x8016);
-    product(b"C4 ", 2, 0x8000);
-    io::write_all(STDOUT_FILENO, b"C5 ");
-    hex4(gf16::inv(1));
-    line_end();
+fn worked(rt: &impl Print) -> io::Result<()> {
+    product(rt, "C1 ", 2, 0x8016)?;
+    product(rt, "C2 ", 3, 0x8016)?;
+    product(rt, "C3 ", 4, 0x8016)?;
+    product(rt, "C4 ", 2, 0x8000)?;
+    print!(rt; "C5 ")?;
+    hex4(rt, gf16::inv(1))?;
+    line_end(rt)
 }
 
 const BASE: u64 = 65537;
@@ -51,10 +53,10 @@ impl Digest {
         }
     }
 
-    fn print(self) {
-        io::print_hex(STDOUT_FILENO, self.low, 8);
-        io::write_all(STDOUT_FILENO, b" ");
-        io::print_hex(STDOUT_FILENO, self.high, 8);
+    fn print(self, rt: &impl Print) -> io::Result<()> {
+        let low = self.low;
+        let high = self.high;
+        print!(rt; "{low:08x} {high:08x}")
     }
 }
 
@@ -63,7 +65,7 @@ fn inverses(first: u16, count: u16) -> Digest {
     let mut digest = Digest::new();
     let mut left = count;
     while 0 < left {
-        let a = std::num::wrapping_add_u16(first, count - left);
+        let a = first.wrapping_add(count - left);
         let next = digest.take(gf16::inv(a));
         digest = next;
         left -= 1;
@@ -72,17 +74,18 @@ fn inverses(first: u16, count: u16) -> Digest {
 }
 
 // All elements, 4,096 to a line.
-fn all_inverses() {
+fn all_inverses(rt: &impl Print) -> io::Result<()> {
     let mut left: u16 = 16;
     while 0 < left {
         let first = (16 - left) * 4096;
-        io::write_all(STDOUT_FILENO, b"inverses from ");
-        hex4(first);
-        io::write_all(STDOUT_FILENO, b": ");
-        inverses(first, 4096).print();
-        line_end();
+        print!(rt; "inverses from ")?;
+        hex4(rt, first)?;
+        print!(rt; ": ")?;
+        inverses(first, 4096).print(rt)?;
+        line_end(rt)?;
         left -= 1;
     }
+    Ok(())
 }
 
 // The factors of product i leap over the field.
@@ -95,26 +98,27 @@ fn right_factor(i: u64) -> u16 {
 }
 
 // Sixteen products, from product `first` on.
-fn row(first: u64) {
+fn row(rt: &impl Print, first: u64) -> io::Result<()> {
     let mut left: u64 = 16;
     while 0 < left {
-        let i = std::num::wrapping_add_u64(first, 16 - left);
-        hex4(gf16::mul(left_factor(i), right_factor(i)));
+        let i = first.wrapping_add(16 - left);
+        hex4(rt, gf16::mul(left_factor(i), right_factor(i)))?;
         left -= 1;
     }
-    line_end();
+    line_end(rt)
 }
 
-fn products() {
+fn products(rt: &impl Print) -> io::Result<()> {
     let mut left: u64 = 640;
     while 0 < left {
-        row((640 - left) * 16);
+        row(rt, (640 - left) * 16)?;
         left -= 1;
     }
+    Ok(())
 }
 
-fn main() {
-    worked();
-    all_inverses();
-    products();
+fn main(rt: HostRuntime) -> io::Result<()> {
+    worked(&rt)?;
+    all_inverses(&rt)?;
+    products(&rt)
 }
