@@ -1,9 +1,12 @@
 // The program that lists: bytes come in by standard input, and lines of text go out.
-ghost use Rattle.io.specs.Counts.{IsPrefixLen};
+#![tactic(auto)]
 
-use libc::{STDERR_FILENO, STDIN_FILENO, STDOUT_FILENO};
+ghost use Rattle.std.specs.Prelude.{◌≡◌, ◌≤◌, length, take};
+
 use sfc::Written;
 use sfc_listing::listing;
+use std::io;
+use std::io::Read;
 
 // A byte more than the longest file that is listed, so that a longer one is known by its length.
 const FILE_ROOM: usize = sfc_listing::FILE_MOST + 1;
@@ -21,15 +24,16 @@ struct Input {
 
 // Reads to the input's end, or until the room is full. A failed read counts no byte, as the end does, so that its answer is
 // looked at again.
-fn read_input(room: &mut [u8]) -> Input
-    ensures { IsPrefixLen result.length room.new }
+fn read_input(rt: &impl io::Input, room: &mut [u8]) -> Input
+    ensures { (result.length ≤ length room.new) × (result.length ≡ length (take result.length room.new)) }
 {
+    let mut reader = rt.reader();
     let mut length = 0;
     while length < room.len() {
-        let got = libc::read(STDIN_FILENO, &mut room[length..]);
-        let count = io::count(got, &room[length..]);
+        let got = reader.read(&mut room[length..]);
+        let failed = got.is_err();
+        let count = got.unwrap_or(0);
         if count == 0 {
-            let failed = got < 0;
             return Input { length, failed };
         }
         length += count;
@@ -41,22 +45,20 @@ fn read_input(room: &mut [u8]) -> Input
 }
 
 // The text at the output's front. Memory as long as it is lent here is never refused.
-fn print(written: Written, out: &[u8]) {
+fn print(rt: &(impl Print + Eprint), written: Written, out: &[u8]) -> io::Result<()> {
     match written {
         Written::Bytes(length) => {
             let end = little::within8(length, out);
-            if !io::write_all(STDOUT_FILENO, &out[..end]) {
-                io::write_all(
-                    STDERR_FILENO,
-                    b"sfc_list: the listing could not be written\n",
-                );
+            if rt.write_all(&out[..end]).is_err() {
+                eprintln!(rt; "sfc_list: the listing could not be written")?;
             }
         }
         Written::Refused(_) => {}
     }
+    Ok(())
 }
 
-fn list(file: &[u8]) {
+fn list(rt: &(impl Print + Eprint), file: &[u8]) -> io::Result<()> {
     let mut store = [0u8; sfc_listing::STORE];
     let mut marks = [0u8; sfc_listing::MARKS];
     let mut scratch = [0u8; sfc_listing::SCRATCH];
@@ -74,16 +76,15 @@ fn list(file: &[u8]) {
         &mut bounds,
         &mut out,
     );
-    print(written, &out);
+    print(rt, written, &out)
 }
 
 // What was not read to its end is not judged.
-fn main() {
+fn main(rt: HostRuntime) -> io::Result<()> {
     let mut room = file_room();
-    let input = read_input(&mut room);
+    let input = read_input(&rt, &mut room);
     if input.failed {
-        io::write_all(STDERR_FILENO, b"sfc_list: the input could not be read\n");
-        return;
+        return eprintln!(rt; "sfc_list: the input could not be read");
     }
-    list(&room[..input.length]);
+    list(&rt, &room[..input.length])
 }

@@ -1,8 +1,9 @@
 // Frames that check or measure a part of the file as a chunk.
 use crate::frame::Frame;
 use crate::run::Run;
-use crate::{edit, frame, print, run};
+use crate::{edit, frame, print, room, run};
 use sfc::{ChunkChecked, ChunkMeasured, Head, check_chunk, measure_chunk, number_of};
+use std::io;
 
 // What a sweep finds: the number of the refusal and the word for its place, and 0 alone for a whole chunk.
 #[derive(Drop)]
@@ -25,28 +26,28 @@ fn answer(head: Head, chunk: &[u8], here: usize) -> Finding {
     }
 }
 
-fn check(head: Head, chunk: &[u8]) {
+fn check(rt: &impl Print, head: Head, chunk: &[u8]) -> io::Result<()> {
     let checked = check_chunk(head, chunk);
     match checked {
         ChunkChecked::Refused(reason, spot) => {
-            print::decimal(number_of(reason) as u64);
-            print::spot(spot);
+            print::decimal(rt, number_of(reason) as u64)?;
+            print::spot(rt, spot)?;
         }
         ChunkChecked::Whole(index, place) => {
-            print::field(b"whole ", index.0 as u64);
-            print::field(b" ", place.0 as u64);
+            print::field(rt, "whole ", index.0 as u64)?;
+            print::field(rt, " ", place.0 as u64)?;
         }
     }
-    print::line_end();
+    print::line_end(rt)
 }
 
-fn measure(head: Head, chunk: &[u8]) {
+fn measure(rt: &impl Print, head: Head, chunk: &[u8]) -> io::Result<()> {
     let measured = measure_chunk(head, chunk);
     match measured {
-        ChunkMeasured::Refused(reason) => print::decimal(number_of(reason) as u64),
-        ChunkMeasured::Length(length) => print::field(b"length ", length as u64),
+        ChunkMeasured::Refused(reason) => print::decimal(rt, number_of(reason) as u64)?,
+        ChunkMeasured::Length(length) => print::field(rt, "length ", length as u64)?,
     }
-    print::line_end();
+    print::line_end(rt)
 }
 
 // The answer with one byte changed, and the chunk sealed if that is asked for.
@@ -60,8 +61,14 @@ fn changed_answer(head: Head, chunk: &mut [u8], at: usize, mask: u8, sealed: boo
     answer(head, chunk, at)
 }
 
-fn sweep_bytes(head: Head, chunk: &mut [u8], mask: u8, sealed: bool) {
-    let mut before = io::large_buffer();
+fn sweep_bytes(
+    rt: &impl Print,
+    head: Head,
+    chunk: &mut [u8],
+    mask: u8,
+    sealed: bool,
+) -> io::Result<()> {
+    let mut before = room::large_buffer();
     edit::copy(chunk, &mut before);
     let end = chunk.len();
     let mut run = Run::new();
@@ -69,11 +76,11 @@ fn sweep_bytes(head: Head, chunk: &mut [u8], mask: u8, sealed: bool) {
     while at < end {
         let answer = changed_answer(head, chunk, at, mask, sealed);
         edit::copy(&before, chunk);
-        let next = run.take_word(at as u64, answer.number, answer.word);
+        let next = run.take_word(rt, at as u64, answer.number, answer.word)?;
         run = next;
         at += 1;
     }
-    run.end(end as u64);
+    run.end(rt, end as u64)
 }
 
 fn prefix_answer(head: Head, chunk: &[u8], length: usize) -> Finding {
@@ -81,30 +88,30 @@ fn prefix_answer(head: Head, chunk: &[u8], length: usize) -> Finding {
     answer(head, &chunk[..end], length)
 }
 
-fn sweep_lengths(head: Head, chunk: &[u8]) {
+fn sweep_lengths(rt: &impl Print, head: Head, chunk: &[u8]) -> io::Result<()> {
     let mut run = Run::new();
     let mut length = 0;
     while length < chunk.len() {
         let answer = prefix_answer(head, chunk, length);
-        let next = run.take_word(length as u64, answer.number, answer.word);
+        let next = run.take_word(rt, length as u64, answer.number, answer.word)?;
         run = next;
         length += 1;
     }
-    run.end(length as u64);
+    run.end(rt, length as u64)
 }
 
-pub(crate) fn ask(frame: Frame, head: Head, file: &mut [u8]) {
+pub(crate) fn ask(rt: &impl Print, frame: Frame, head: Head, file: &mut [u8]) -> io::Result<()> {
     let start = little::within8(frame.a as usize, file);
     let rest = &mut file[start..];
     let end = little::within8(frame.b as usize, rest);
     let chunk = &mut rest[..end];
     let opcode = frame.opcode;
     match opcode {
-        frame::CHECK_CHUNK => check(head, chunk),
-        frame::CHUNK_BYTES => sweep_bytes(head, chunk, frame.small, false),
-        frame::CHUNK_BYTES_SEALED => sweep_bytes(head, chunk, frame.small, true),
-        frame::CHUNK_LENGTHS => sweep_lengths(head, chunk),
-        frame::MEASURE_CHUNK => measure(head, chunk),
-        _ => {}
+        frame::CHECK_CHUNK => check(rt, head, chunk),
+        frame::CHUNK_BYTES => sweep_bytes(rt, head, chunk, frame.small, false),
+        frame::CHUNK_BYTES_SEALED => sweep_bytes(rt, head, chunk, frame.small, true),
+        frame::CHUNK_LENGTHS => sweep_lengths(rt, head, chunk),
+        frame::MEASURE_CHUNK => measure(rt, head, chunk),
+        _ => Ok(()),
     }
 }

@@ -1,9 +1,9 @@
 // Frames that load, keep, cut and change the file.
-ghost use Rattle.io.specs.Counts.{IsPrefixLen};
+ghost use Rattle.std.specs.Io.{ReadsAtMost};
 
 use crate::frame::Frame;
-use crate::{frame, write};
-use libc::STDIN_FILENO;
+use crate::{frame, input, room, write};
+use std::io;
 
 // How many bytes of the two buffers are the file and the kept file.
 #[derive(Drop)]
@@ -23,20 +23,20 @@ pub(crate) fn copy(src: &[u8], dst: &mut [u8]) {
 }
 
 // Reads up to `count` bytes of input to the front of the buffer, as far as it goes, and answers how many.
-pub(crate) fn fill(count: usize, buffer: &mut [u8]) -> usize
-    ensures { IsPrefixLen result buffer.new }
+pub(crate) fn fill(rt: &impl Input, count: usize, buffer: &mut [u8]) -> io::Result<usize>
+    ensures { ReadsAtMost result buffer.new }
 {
     let end = little::within8(count, buffer);
-    io::read_full(STDIN_FILENO, &mut buffer[..end])
+    input::read_full(rt, &mut buffer[..end])
 }
 
-fn load(count: usize, file: &mut [u8], kept: &mut [u8]) -> Sizes {
-    let got = fill(count, file);
+fn load(rt: &impl Input, count: usize, file: &mut [u8], kept: &mut [u8]) -> io::Result<Sizes> {
+    let got = fill(rt, count, file)?;
     copy(file, kept);
-    Sizes {
+    Ok(Sizes {
         file: got,
         kept: got,
-    }
+    })
 }
 
 // Bytes of one value after the file's end, as far as the buffer goes.
@@ -53,7 +53,7 @@ fn grow(count: usize, value: u8, sizes: Sizes, file: &mut [u8]) -> Sizes {
 
 // The bytes of a part after the file's end, as far as the buffer goes.
 fn repeat(frame: Frame, sizes: Sizes, file: &mut [u8]) -> Sizes {
-    let mut part = io::large_buffer();
+    let mut part = room::large_buffer();
     let length = little::within8(sizes.file, file);
     let start = little::within8(frame.a as usize, &file[..length]);
     let rest = &file[start..length];
@@ -69,32 +69,38 @@ fn repeat(frame: Frame, sizes: Sizes, file: &mut [u8]) -> Sizes {
 }
 
 // Frames that change how long the file is.
-pub(crate) fn resize(frame: Frame, sizes: Sizes, file: &mut [u8], kept: &mut [u8]) -> Sizes {
+pub(crate) fn resize(
+    rt: &(impl Print + Input),
+    frame: Frame,
+    sizes: Sizes,
+    file: &mut [u8],
+    kept: &mut [u8],
+) -> io::Result<Sizes> {
     let opcode = frame.opcode;
     match opcode {
-        frame::LOAD => load(frame.a as usize, file, kept),
+        frame::LOAD => load(rt, frame.a as usize, file, kept),
         frame::KEEP => {
             copy(file, kept);
-            Sizes {
+            Ok(Sizes {
                 file: sizes.file,
                 kept: sizes.file,
-            }
+            })
         }
         frame::RESTORE => {
             copy(kept, file);
-            Sizes {
+            Ok(Sizes {
                 file: sizes.kept,
                 kept: sizes.kept,
-            }
+            })
         }
-        frame::CUT => Sizes {
+        frame::CUT => Ok(Sizes {
             file: little::least(frame.a as usize, sizes.file),
             kept: sizes.kept,
-        },
-        frame::WRITE => write::become_written(frame, sizes, file),
-        frame::REPEAT => repeat(frame, sizes, file),
-        frame::GROW => grow(frame.a as usize, frame.small, sizes, file),
-        _ => sizes,
+        }),
+        frame::WRITE => write::become_written(rt, frame, sizes, file),
+        frame::REPEAT => Ok(repeat(frame, sizes, file)),
+        frame::GROW => Ok(grow(frame.a as usize, frame.small, sizes, file)),
+        _ => Ok(sizes),
     }
 }
 

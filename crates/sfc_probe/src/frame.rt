@@ -1,7 +1,7 @@
 // The frames: an opcode, a small number (one byte each), and two 32-bit numbers a and b, little-endian; after some of them a
 // bytes of data. A number that is out of range asks for as much as there is.
-use crate::print;
-use libc::STDIN_FILENO;
+use crate::{input, print, room};
+use std::io;
 
 // No more input.
 pub(crate) const END: u8 = 0;
@@ -62,7 +62,7 @@ pub(crate) const CHUNK_LENGTHS: u8 = 43;
 pub(crate) const MEASURE_CHUNK: u8 = 44;
 
 // A session begins with a store of a zeros and b marks of 0, but for the first, which is the small number. Its scratch is as many
-// zeros as the kept head wants, M.S, and no column is finished.
+// zeros as the kept head wants, M·S, and no column is finished.
 pub(crate) const BEGIN: u8 = 50;
 // Tally a (fresh, repeat, then the refusals from 30 on) becomes b.
 pub(crate) const SET_TALLY: u8 = 51;
@@ -137,7 +137,7 @@ pub(crate) const TURN: u8 = 84;
 // it is long, the scratch and the finished columns.
 pub(crate) const RELEASE: u8 = 85;
 
-#[derive(Drop)]
+#[derive(Clone, Copy)]
 pub(crate) struct Frame {
     pub(crate) opcode: u8,
     pub(crate) small: u8,
@@ -146,29 +146,29 @@ pub(crate) struct Frame {
 }
 
 // The next frame of the input; one that is not all there is the end.
-pub(crate) fn next() -> Frame {
+pub(crate) fn next(rt: &impl Input) -> io::Result<Frame> {
     let mut bytes = [0u8; 10];
-    let got = io::read_full(STDIN_FILENO, &mut bytes);
+    let got = input::read_full(rt, &mut bytes)?;
     if got < 10 {
-        return Frame {
+        return Ok(Frame {
             opcode: END,
             small: 0,
             a: 0,
             b: 0,
-        };
+        });
     }
-    Frame {
+    Ok(Frame {
         opcode: little::byte_at(&bytes, 0),
         small: little::byte_at(&bytes, 1),
         a: little::read32(&bytes, 2),
         b: little::read32(&bytes, 6),
-    }
+    })
 }
 
 // Prints that many bytes of the input, as far as they go and the buffer, and a line end.
-pub(crate) fn say(count: usize) {
-    let mut text = io::buffer();
-    let got = crate::edit::fill(count, &mut text);
-    io::write_all(libc::STDOUT_FILENO, &text[..got]);
-    print::line_end();
+pub(crate) fn say(rt: &(impl Print + Input), count: usize) -> io::Result<()> {
+    let mut text = room::buffer();
+    let got = crate::edit::fill(rt, count, &mut text)?;
+    rt.write_all(&text[..got])?;
+    print::line_end(rt)
 }

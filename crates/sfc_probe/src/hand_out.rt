@@ -1,10 +1,11 @@
 // Frames that ask for the content, by turns and a release, or for a block, over scratch of their own.
 use crate::frame::Frame;
-use crate::{frame, print, sets, turns};
+use crate::{frame, print, room, sets, turns};
 use sfc::{BlockGiven, BlockNumber, Head, block, number_of};
+use std::io;
 
 // How many bytes and numbers are lent as scratch, and the budget of a hand-out's turns, 0 where there is one for all columns.
-#[derive(Drop)]
+#[derive(Clone, Copy)]
 pub(crate) struct Scratch {
     pub(crate) bytes: usize,
     pub(crate) numbers: usize,
@@ -25,7 +26,7 @@ pub(crate) fn scratch_after(frame: Frame, before: Scratch) -> Scratch {
 
 // What was answered in the end: the number of the refusal or 0, the block and the place that were given; and of a hand-out the
 // columns that are finished after it, and how many turns did any.
-#[derive(Drop)]
+#[derive(Clone, Copy)]
 pub(crate) struct Told {
     pub(crate) answer: u8,
     pub(crate) block: u64,
@@ -106,35 +107,36 @@ pub(crate) fn numbers_state(numbers: &[u16]) -> u8 {
     2
 }
 
-pub(crate) fn print_state(state: u8) {
+pub(crate) fn print_state(rt: &impl Print, state: u8) -> io::Result<()> {
     match state {
-        0 => print::text(b"zeros"),
-        1 => print::text(b"kept"),
-        _ => print::text(b"mixed"),
+        0 => print::text(rt, "zeros"),
+        1 => print::text(rt, "kept"),
+        _ => print::text(rt, "mixed"),
     }
 }
 
-fn print_told(opcode: u8, told: Told) {
+fn print_told(rt: &impl Print, opcode: u8, told: Told) -> io::Result<()> {
     if told.answer != 0 {
-        print::decimal(told.answer as u64);
+        print::decimal(rt, told.answer as u64)
     } else if is_for_content(opcode) {
-        print::field(b"complete ", told.place);
+        print::field(rt, "complete ", told.place)
     } else {
-        print::field(b"unverified ", told.block);
-        print::field(b" ", told.place);
+        print::field(rt, "unverified ", told.block)?;
+        print::field(rt, " ", told.place)
     }
 }
 
-fn print_rest(opcode: u8, told: Told) {
+fn print_rest(rt: &impl Print, opcode: u8, told: Told) -> io::Result<()> {
     if is_for_content(opcode) {
-        print::field(b" finished ", told.finished as u64);
-        print::field(b" turns ", told.turns as u64);
+        print::field(rt, " finished ", told.finished as u64)?;
+        print::field(rt, " turns ", told.turns as u64)?;
     }
-    print::line_end();
+    print::line_end(rt)
 }
 
 // The answer, the output, the scratch, and what is told of the turns.
 fn one(
+    rt: &impl Print,
     frame: Frame,
     head: Head,
     budget: u32,
@@ -143,15 +145,15 @@ fn one(
     scratch: &mut [u8],
     numbers: &mut [u16],
     out: &mut [u8],
-) {
+) -> io::Result<()> {
     let told = call(frame, head, budget, store, marks, scratch, numbers, out);
-    print_told(frame.opcode, told);
-    print::output(out);
-    print::text(b" scratch ");
-    print_state(bytes_state(scratch));
-    print::text(b" numbers ");
-    print_state(numbers_state(numbers));
-    print_rest(frame.opcode, told);
+    print_told(rt, frame.opcode, told)?;
+    print::output(rt, out)?;
+    print::text(rt, " scratch ")?;
+    print_state(rt, bytes_state(scratch))?;
+    print::text(rt, " numbers ")?;
+    print_state(rt, numbers_state(numbers))?;
+    print_rest(rt, frame.opcode, told)
 }
 
 fn output_length(frame: Frame, s: u32) -> usize {
@@ -171,6 +173,7 @@ pub(crate) fn numbers_room() -> [u16; 1025] {
 
 // With scratch and output of the lengths that are asked for.
 fn ask_with(
+    rt: &impl Print,
     frame: Frame,
     head: Head,
     lent: Scratch,
@@ -178,12 +181,13 @@ fn ask_with(
     marks: &[u8],
     scratch: &mut [u8],
     out: &mut [u8],
-) {
+) -> io::Result<()> {
     let mut room = numbers_room();
     let end = little::within16(lent.numbers, &room);
     let numbers = &mut room[..end];
     if (frame.opcode == frame::HAND_OUT) | (frame.opcode == frame::BLOCK) {
         one(
+            rt,
             frame,
             head,
             lent.budget,
@@ -192,9 +196,10 @@ fn ask_with(
             scratch,
             numbers,
             out,
-        );
+        )
     } else {
         sets::sweep(
+            rt,
             frame,
             head,
             lent.budget,
@@ -203,16 +208,24 @@ fn ask_with(
             scratch,
             numbers,
             out,
-        );
+        )
     }
 }
 
-fn lend(frame: Frame, head: Head, lent: Scratch, store: &[u8], marks: &[u8]) {
-    let mut scratch = io::large_buffer();
-    let mut out = io::large_buffer();
+fn lend(
+    rt: &impl Print,
+    frame: Frame,
+    head: Head,
+    lent: Scratch,
+    store: &[u8],
+    marks: &[u8],
+) -> io::Result<()> {
+    let mut scratch = room::large_buffer();
+    let mut out = room::large_buffer();
     let scratch_end = little::within8(lent.bytes, &scratch);
     let out_end = little::within8(output_length(frame, head.s), &out);
     ask_with(
+        rt,
         frame,
         head,
         lent,
@@ -220,15 +233,22 @@ fn lend(frame: Frame, head: Head, lent: Scratch, store: &[u8], marks: &[u8]) {
         marks,
         &mut scratch[..scratch_end],
         &mut out[..out_end],
-    );
+    )
 }
 
-pub(crate) fn ask(frame: Frame, head: Head, lent: Scratch, store: &[u8], marks: &[u8]) {
+pub(crate) fn ask(
+    rt: &impl Print,
+    frame: Frame,
+    head: Head,
+    lent: Scratch,
+    store: &[u8],
+    marks: &[u8],
+) -> io::Result<()> {
     let opcode = frame.opcode;
     match opcode {
         frame::HAND_OUT | frame::BLOCK | frame::HAND_OUT_SETS | frame::BLOCK_SETS => {
-            lend(frame, head, lent, store, marks)
+            lend(rt, frame, head, lent, store, marks)
         }
-        _ => {}
+        _ => Ok(()),
     }
 }

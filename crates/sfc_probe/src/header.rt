@@ -1,8 +1,9 @@
 // Frames that read the file's header.
 use crate::frame::Frame;
 use crate::run::Run;
-use crate::{edit, frame, hand_out, print};
+use crate::{edit, frame, hand_out, print, room};
 use sfc::{Checked, FieldFound, Head, find_field, number_of, read_header};
+use std::io;
 
 // The head of no file.
 pub(crate) fn none() -> Head {
@@ -21,59 +22,71 @@ fn answer(file: &[u8]) -> u8 {
 }
 
 // The name, and whether zeros follow it.
-fn print_name(name: [u8; 255], length: u8) {
+fn print_name(rt: &impl Print, name: [u8; 255], length: u8) -> io::Result<()> {
     let end = little::within8(length as usize, &name);
-    print::bytes(b" name=", &name[..end]);
-    print::text(b" then ");
-    hand_out::print_state(hand_out::bytes_state(&name[end..]));
+    print::bytes(rt, " name=", &name[..end])?;
+    print::text(rt, " then ")?;
+    hand_out::print_state(rt, hand_out::bytes_state(&name[end..]))
 }
 
-fn print_hash(hash: [u8; 32]) {
-    print::bytes(b" hash=", &hash);
+fn print_hash(rt: &impl Print, hash: [u8; 32]) -> io::Result<()> {
+    print::bytes(rt, " hash=", &hash)
 }
 
-fn print_shape(n: u32, m: u32, s: u32) {
-    print::field(b" N=", n as u64);
-    print::field(b" M=", m as u64);
-    print::field(b" S=", s as u64);
+fn print_shape(rt: &impl Print, n: u32, m: u32, s: u32) -> io::Result<()> {
+    print::field(rt, " N=", n as u64)?;
+    print::field(rt, " M=", m as u64)?;
+    print::field(rt, " S=", s as u64)
 }
 
-fn print_rest(erasure: u8, compression: u8, flags: u16, priorities: u16) {
-    print::field(b" erasure=", erasure as u64);
-    print::field(b" compression=", compression as u64);
-    print::field(b" flags=", flags as u64);
-    print::field(b" P=", priorities as u64);
-    print::line_end();
+fn print_rest(
+    rt: &impl Print,
+    erasure: u8,
+    compression: u8,
+    flags: u16,
+    priorities: u16,
+) -> io::Result<()> {
+    print::field(rt, " erasure=", erasure as u64)?;
+    print::field(rt, " compression=", compression as u64)?;
+    print::field(rt, " flags=", flags as u64)?;
+    print::field(rt, " P=", priorities as u64)?;
+    print::line_end(rt)
 }
 
-fn print_head(head: Head) {
+fn print_head(rt: &impl Print, head: Head) -> io::Result<()> {
     let uuid = head.uuid;
     let name = head.name;
     let hash = head.hash;
-    print::field(b"good H=", head.header_length as u64);
-    print::bytes(b" uuid=", &uuid);
-    print::field(b" size=", head.size);
-    print::field(b" format=", head.format as u64);
-    print_name(name, head.name_length);
-    print_hash(hash);
-    print_shape(head.n, head.m, head.s);
-    print_rest(head.erasure, head.compression, head.flags, head.priorities);
+    print::field(rt, "good H=", head.header_length as u64)?;
+    print::bytes(rt, " uuid=", &uuid)?;
+    print::field(rt, " size=", head.size)?;
+    print::field(rt, " format=", head.format as u64)?;
+    print_name(rt, name, head.name_length)?;
+    print_hash(rt, hash)?;
+    print_shape(rt, head.n, head.m, head.s)?;
+    print_rest(
+        rt,
+        head.erasure,
+        head.compression,
+        head.flags,
+        head.priorities,
+    )
 }
 
 // Reads and prints; a refused header leaves the head that was kept.
-pub(crate) fn read(kept: Head, file: &[u8]) -> Head {
+pub(crate) fn read(rt: &impl Print, kept: Head, file: &[u8]) -> io::Result<Head> {
     let read = read_header(file);
     let verdict = read.verdict;
     let head = read.head;
     match verdict {
         Checked::Refused(reason) => {
-            print::decimal(number_of(reason) as u64);
-            print::line_end();
-            kept
+            print::decimal(rt, number_of(reason) as u64)?;
+            print::line_end(rt)?;
+            Ok(kept)
         }
         Checked::Good => {
-            print_head(head);
-            head
+            print_head(rt, head)?;
+            Ok(head)
         }
     }
 }
@@ -103,17 +116,17 @@ pub(crate) fn with_number(frame: Frame, head: Head) -> Head {
 }
 
 // Where the value of a field begins, and its length; a header that is refused gives its number.
-pub(crate) fn find(file: &[u8], tag: u16) {
+pub(crate) fn find(rt: &impl Print, file: &[u8], tag: u16) -> io::Result<()> {
     let found = find_field(file, tag);
     match found {
         FieldFound::At(place, length) => {
-            print::field(b"at ", place.0 as u64);
-            print::field(b" ", length as u64);
+            print::field(rt, "at ", place.0 as u64)?;
+            print::field(rt, " ", length as u64)?;
         }
-        FieldFound::Nothing => print::text(b"nothing"),
-        FieldFound::Refused(reason) => print::decimal(number_of(reason) as u64),
+        FieldFound::Nothing => print::text(rt, "nothing")?,
+        FieldFound::Refused(reason) => print::decimal(rt, number_of(reason) as u64)?,
     }
-    print::line_end();
+    print::line_end(rt)
 }
 
 // As long as the longest header with all that stands around it, and a byte more.
@@ -135,18 +148,23 @@ fn put_apart(file: &[u8], long: &mut [u8]) {
     edit::copy(&file[..split], long);
 }
 
-fn read_apart(kept: Head, file: &[u8], long: &mut [u8]) -> Head {
+fn read_apart(rt: &impl Print, kept: Head, file: &[u8], long: &mut [u8]) -> io::Result<Head> {
     put_apart(file, long);
     edit::seal_header(long);
-    read(kept, long)
+    read(rt, kept, long)
 }
 
 // Reads the header of a file that is longer by bytes of one value.
-pub(crate) fn read_long(frame: Frame, kept: Head, file: &[u8]) -> Head {
+pub(crate) fn read_long(
+    rt: &impl Print,
+    frame: Frame,
+    kept: Head,
+    file: &[u8],
+) -> io::Result<Head> {
     let mut room = long_room(frame.small);
     let length = little::least(file.len(), 65536) + frame.a as usize;
     let end = little::within8(length, &room);
-    read_apart(kept, file, &mut room[..end])
+    read_apart(rt, kept, file, &mut room[..end])
 }
 
 // The answer with one byte changed, and the trailer sealed if that is asked for.
@@ -160,8 +178,15 @@ fn changed_answer(file: &mut [u8], at: usize, mask: u8, sealed: bool) -> u8 {
     answer(file)
 }
 
-fn sweep_bytes(file: &mut [u8], from: usize, to: usize, mask: u8, sealed: bool) {
-    let mut before = io::large_buffer();
+fn sweep_bytes(
+    rt: &impl Print,
+    file: &mut [u8],
+    from: usize,
+    to: usize,
+    mask: u8,
+    sealed: bool,
+) -> io::Result<()> {
+    let mut before = room::large_buffer();
     edit::copy(file, &mut before);
     let end = little::least(to, file.len());
     let mut run = Run::new();
@@ -169,11 +194,11 @@ fn sweep_bytes(file: &mut [u8], from: usize, to: usize, mask: u8, sealed: bool) 
     while at < end {
         let answer = changed_answer(file, at, mask, sealed);
         edit::copy(&before, file);
-        let next = run.take(at as u64, answer);
+        let next = run.take(rt, at as u64, answer)?;
         run = next;
         at += 1;
     }
-    run.end(end as u64);
+    run.end(rt, end as u64)
 }
 
 fn prefix_answer(file: &[u8], length: usize) -> u8 {
@@ -181,31 +206,32 @@ fn prefix_answer(file: &[u8], length: usize) -> u8 {
     answer(&file[..end])
 }
 
-fn sweep_lengths(file: &[u8], from: usize, to: usize) {
+fn sweep_lengths(rt: &impl Print, file: &[u8], from: usize, to: usize) -> io::Result<()> {
     let end = little::least(to, file.len());
     let mut run = Run::new();
     let mut length = from;
     while length < end {
-        let next = run.take(length as u64, prefix_answer(file, length));
+        let next = run.take(rt, length as u64, prefix_answer(file, length))?;
         run = next;
         length += 1;
     }
-    run.end(end as u64);
+    run.end(rt, end as u64)
 }
 
-pub(crate) fn sweep(frame: Frame, file: &mut [u8]) {
+pub(crate) fn sweep(rt: &impl Print, frame: Frame, file: &mut [u8]) -> io::Result<()> {
     let opcode = frame.opcode;
     let from = frame.a as usize;
     let to = frame.b as usize;
     if opcode == frame::HEADER_LENGTHS {
-        sweep_lengths(file, from, to);
+        sweep_lengths(rt, file, from, to)
     } else {
         sweep_bytes(
+            rt,
             file,
             from,
             to,
             frame.small,
             opcode == frame::HEADER_BYTES_SEALED,
-        );
+        )
     }
 }

@@ -3,6 +3,7 @@ use crate::frame::Frame;
 use crate::{edit, hand_out, print};
 use sfc::Written;
 use sfc_listing::listing;
+use std::io;
 
 // The pieces of lent memory, by the small number of a frame that gives one of them another length; then the file.
 const STORE: u8 = 1;
@@ -63,13 +64,14 @@ fn bounds_state(bounds: &[u32]) -> u8 {
     2
 }
 
-fn print_piece(label: &[u8], state: u8) {
-    print::text(label);
-    hand_out::print_state(state);
+fn print_piece(rt: &impl Print, label: &str, state: u8) -> io::Result<()> {
+    print::text(rt, label)?;
+    hand_out::print_state(rt, state)
 }
 
 // The call's answer, what became of the output after the text and of the memory, and the text.
 fn report(
+    rt: &impl Print,
     written: Written,
     store: &[u8],
     marks: &[u8],
@@ -78,21 +80,22 @@ fn report(
     content: &[u8],
     bounds: &[u32],
     out: &[u8],
-) {
-    let length = print::written(b"listed ", written);
+) -> io::Result<()> {
+    let length = print::written(rt, "listed ", written)?;
     let end = little::within8(length, out);
-    print_piece(b" behind ", hand_out::bytes_state(&out[end..]));
-    print_piece(b" desk ", hand_out::bytes_state(store));
-    print_piece(b" ", hand_out::bytes_state(marks));
-    print_piece(b" ", hand_out::bytes_state(scratch));
-    print_piece(b" ", hand_out::numbers_state(numbers));
-    print_piece(b" ", hand_out::bytes_state(content));
-    print_piece(b" ", bounds_state(bounds));
-    print::line_end();
-    print::text(&out[..end]);
+    print_piece(rt, " behind ", hand_out::bytes_state(&out[end..]))?;
+    print_piece(rt, " desk ", hand_out::bytes_state(store))?;
+    print_piece(rt, " ", hand_out::bytes_state(marks))?;
+    print_piece(rt, " ", hand_out::bytes_state(scratch))?;
+    print_piece(rt, " ", hand_out::numbers_state(numbers))?;
+    print_piece(rt, " ", hand_out::bytes_state(content))?;
+    print_piece(rt, " ", bounds_state(bounds))?;
+    print::line_end(rt)?;
+    rt.write_all(&out[..end])
 }
 
 fn list(
+    rt: &impl Print,
     file: &[u8],
     store: &mut [u8],
     marks: &mut [u8],
@@ -101,15 +104,15 @@ fn list(
     content: &mut [u8],
     bounds: &mut [u32],
     out: &mut [u8],
-) {
+) -> io::Result<()> {
     let written = listing(file, store, marks, scratch, numbers, content, bounds, out);
     report(
-        written, store, marks, scratch, numbers, content, bounds, out,
-    );
+        rt, written, store, marks, scratch, numbers, content, bounds, out,
+    )
 }
 
 // With memory of the lengths that are asked for, and the output.
-fn lend(frame: Frame, file: &[u8], out: &mut [u8]) {
+fn lend(rt: &impl Print, frame: Frame, file: &[u8], out: &mut [u8]) -> io::Result<()> {
     let mut store = bytes_room();
     let mut marks = marks_room();
     let mut scratch = bytes_room();
@@ -123,6 +126,7 @@ fn lend(frame: Frame, file: &[u8], out: &mut [u8]) {
     let content_end = little::within8(length_of(frame, CONTENT, 32768), &content);
     let bounds_end = little::within32(length_of(frame, BOUNDS, 1024), &bounds);
     list(
+        rt,
         file,
         &mut store[..store_end],
         &mut marks[..marks_end],
@@ -131,14 +135,14 @@ fn lend(frame: Frame, file: &[u8], out: &mut [u8]) {
         &mut content[..content_end],
         &mut bounds[..bounds_end],
         out,
-    );
+    )
 }
 
-pub(crate) fn ask(frame: Frame, file: &[u8]) {
+pub(crate) fn ask(rt: &impl Print, frame: Frame, file: &[u8]) -> io::Result<()> {
     let mut long = file_room();
     let mut out = out_room();
     edit::copy(file, &mut long);
     let file_end = little::within8(length_of(frame, FILE, file.len()), &long);
     let out_end = little::within8(frame.a as usize, &out);
-    lend(frame, &long[..file_end], &mut out[..out_end]);
+    lend(rt, frame, &long[..file_end], &mut out[..out_end])
 }

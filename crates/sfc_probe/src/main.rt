@@ -1,14 +1,18 @@
 // Drives the public calls of sfc, sfc_walk and sfc_listing by frames from standard input, and prints a line for each answer, for
 // comparison with the second program. The frames are listed in frame.rt.
+#![tactic(auto)]
+
 mod chunk;
 mod edit;
 mod frame;
 mod hand_out;
 mod header;
+mod input;
 mod known;
 mod listing;
 mod note;
 mod print;
+mod room;
 mod run;
 mod session;
 mod sets;
@@ -20,39 +24,40 @@ use edit::Sizes;
 use frame::Frame;
 use session::Session;
 use sfc::Head;
+use std::io;
 
 // Frames that take the file, or a part of it, as a chunk or a note.
-fn ask_part(frame: Frame, head: Head, file: &mut [u8]) {
-    note::ask(frame, file);
-    chunk::ask(frame, head, file);
+fn ask_part(rt: &impl Print, frame: Frame, head: Head, file: &mut [u8]) -> io::Result<()> {
+    note::ask(rt, frame, file)?;
+    chunk::ask(rt, frame, head, file)
 }
 
 // Frames that ask; the answer is the head that later chunks are held to.
-fn ask(frame: Frame, head: Head, file: &mut [u8]) -> Head {
+fn ask(rt: &(impl Print + Input), frame: Frame, head: Head, file: &mut [u8]) -> io::Result<Head> {
     let opcode = frame.opcode;
     match opcode {
         frame::SAY => {
-            frame::say(frame.a as usize);
-            head
+            frame::say(rt, frame.a as usize)?;
+            Ok(head)
         }
-        frame::READ_HEADER => header::read(head, file),
-        frame::LONG_HEADER => header::read_long(frame, head, file),
+        frame::READ_HEADER => header::read(rt, head, file),
+        frame::LONG_HEADER => header::read_long(rt, frame, head, file),
         frame::FIND_FIELD => {
-            header::find(file, (frame.a % 65536) as u16);
-            head
+            header::find(rt, file, (frame.a % 65536) as u16)?;
+            Ok(head)
         }
         frame::HEADER_BYTES | frame::HEADER_BYTES_SEALED | frame::HEADER_LENGTHS => {
-            header::sweep(frame, file);
-            head
+            header::sweep(rt, frame, file)?;
+            Ok(head)
         }
-        frame::SET_HEAD => header::with_number(frame, head),
+        frame::SET_HEAD => Ok(header::with_number(frame, head)),
         frame::LISTING => {
-            listing::ask(frame, file);
-            head
+            listing::ask(rt, frame, file)?;
+            Ok(head)
         }
         _ => {
-            ask_part(frame, head, file);
-            head
+            ask_part(rt, frame, head, file)?;
+            Ok(head)
         }
     }
 }
@@ -74,12 +79,13 @@ fn start() -> State {
 }
 
 // A frame on the file as long as it now is.
-fn serve(frame: Frame, head: Head, file: &mut [u8]) -> Head {
+fn serve(rt: &(impl Print + Input), frame: Frame, head: Head, file: &mut [u8]) -> io::Result<Head> {
     edit::change(frame, file);
-    ask(frame, head, file)
+    ask(rt, frame, head, file)
 }
 
 fn serve_session(
+    rt: &impl Print,
     frame: Frame,
     head: Head,
     session: Session,
@@ -88,9 +94,18 @@ fn serve_session(
     scratch: &mut [u8],
     file: &[u8],
     end: usize,
-) -> Session {
+) -> io::Result<Session> {
     let length = little::within8(end, file);
-    session::serve(frame, head, session, store, marks, scratch, &file[..length])
+    session::serve(
+        rt,
+        frame,
+        head,
+        session,
+        store,
+        marks,
+        scratch,
+        &file[..length],
+    )
 }
 
 // What a frame leaves of the file, and of the head that was read from one.
@@ -101,17 +116,23 @@ struct Read {
 }
 
 // A frame as far as the file goes.
-fn serve_file(frame: Frame, before: Sizes, head: Head, file: &mut [u8], kept: &mut [u8]) -> Read {
-    let sizes = edit::resize(frame, before, file, kept);
+fn serve_file(
+    rt: &(impl Print + Input),
+    frame: Frame,
+    before: Sizes,
+    head: Head,
+    file: &mut [u8],
+    kept: &mut [u8],
+) -> io::Result<Read> {
+    let sizes = edit::resize(rt, frame, before, file, kept)?;
     let end = little::within8(sizes.file, file);
-    Read {
-        sizes,
-        head: serve(frame, head, &mut file[..end]),
-    }
+    let head = serve(rt, frame, head, &mut file[..end])?;
+    Ok(Read { sizes, head })
 }
 
 // One frame. An opcode belongs to one of the kinds, and the others let it pass.
 fn step(
+    rt: &(impl Print + Input),
     frame: Frame,
     state: State,
     file: &mut [u8],
@@ -119,47 +140,57 @@ fn step(
     store: &mut [u8],
     marks: &mut [u8],
     scratch: &mut [u8],
-) -> State {
+) -> io::Result<State> {
     let sizes_before = state.sizes;
     let head_before = state.head;
     let before = state.session;
-    let read = serve_file(frame, sizes_before, head_before, file, kept);
+    let read = serve_file(rt, frame, sizes_before, head_before, file, kept)?;
     let sizes = read.sizes;
     let head = read.head;
     let end = sizes.file;
-    State {
+    let session = serve_session(rt, frame, head, before, store, marks, scratch, file, end)?;
+    Ok(State {
         sizes,
         head,
-        session: serve_session(frame, head, before, store, marks, scratch, file, end),
-    }
+        session,
+    })
 }
 
 // A proved loop has to end, and nothing says that the input does: the turns count down from a number that no run uses up.
 fn interpret(
+    rt: &(impl Print + Input),
     file: &mut [u8],
     kept: &mut [u8],
     store: &mut [u8],
     marks: &mut [u8],
     scratch: &mut [u8],
-) {
+) -> io::Result<()> {
     let mut state = start();
     let mut turns = u64::MAX;
     while 0 < turns {
-        let frame = frame::next();
+        let frame = frame::next(rt)?;
         if frame.opcode == frame::END {
-            return;
+            return Ok(());
         }
-        let next = step(frame, state, file, kept, store, marks, scratch);
+        let next = step(rt, frame, state, file, kept, store, marks, scratch)?;
         state = next;
         turns -= 1;
     }
+    Ok(())
 }
 
-fn main() {
-    let mut file = io::large_buffer();
-    let mut kept = io::large_buffer();
-    let mut store = io::large_buffer();
-    let mut marks = io::buffer();
-    let mut scratch = io::large_buffer();
-    interpret(&mut file, &mut kept, &mut store, &mut marks, &mut scratch);
+fn main(rt: HostRuntime) -> io::Result<()> {
+    let mut file = room::large_buffer();
+    let mut kept = room::large_buffer();
+    let mut store = room::large_buffer();
+    let mut marks = room::buffer();
+    let mut scratch = room::large_buffer();
+    interpret(
+        &rt,
+        &mut file,
+        &mut kept,
+        &mut store,
+        &mut marks,
+        &mut scratch,
+    )
 }

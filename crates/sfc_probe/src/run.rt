@@ -1,6 +1,7 @@
 // Neighbouring places of a sweep with the same answer, printed as one line.
 use crate::print;
 use sfc::Spot;
+use std::io;
 
 // The word after a number: a place, or one of these, which are above all places. A number may stand alone; its place may be
 // none, or the very place that the sweep has come to.
@@ -24,13 +25,15 @@ pub(crate) fn word_for(spot: Spot, here: u64) -> u64 {
     }
 }
 
-fn print_word(word: u64) {
+fn print_word(rt: &impl Print, word: u64) -> io::Result<()> {
     if word < ALONE {
-        print::field(b" at ", word);
+        print::field(rt, " at ", word)
     } else if word == NOWHERE {
-        print::text(b" nowhere");
+        print::text(rt, " nowhere")
     } else if word == HERE {
-        print::text(b" here");
+        print::text(rt, " here")
+    } else {
+        Ok(())
     }
 }
 
@@ -54,32 +57,39 @@ impl Run {
     }
 
     // Goes on with the answer at a place: another answer ends the run, and begins the next.
-    pub(crate) fn take(self, place: u64, answer: u8) -> Run {
-        self.take_word(place, answer, ALONE)
+    pub(crate) fn take(self, rt: &impl Print, place: u64, answer: u8) -> io::Result<Run> {
+        self.take_word(rt, place, answer, ALONE)
     }
 
     // The same for an answer with a word: another word ends the run as well.
-    pub(crate) fn take_word(self, place: u64, answer: u8, word: u64) -> Run {
+    pub(crate) fn take_word(
+        self,
+        rt: &impl Print,
+        place: u64,
+        answer: u8,
+        word: u64,
+    ) -> io::Result<Run> {
         if self.begun & (self.answer == answer) & (self.word == word) {
-            return self;
+            return Ok(self);
         }
-        self.end(place);
-        Run {
+        self.end(rt, place)?;
+        Ok(Run {
             first: place,
             answer,
             word,
             begun: true,
-        }
+        })
     }
 
     // Prints the places from the first up to `end`, and their answer; 0 stands for an accepted input.
-    pub(crate) fn end(self, end: u64) {
+    pub(crate) fn end(self, rt: &impl Print, end: u64) -> io::Result<()> {
         if self.begun {
-            print::decimal(self.first);
-            print::field(b"..", end);
-            print::field(b" ", self.answer as u64);
-            print_word(self.word);
-            print::line_end();
+            print::decimal(rt, self.first)?;
+            print::field(rt, "..", end)?;
+            print::field(rt, " ", self.answer as u64)?;
+            print_word(rt, self.word)?;
+            print::line_end(rt)?;
         }
+        Ok(())
     }
 }

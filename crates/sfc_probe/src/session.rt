@@ -5,6 +5,7 @@ use crate::work::Work;
 use crate::{edit, frame, hand_out, known, print, turns, work};
 use sfc::{ColumnCount, Head, Tallies, Verdict, number_of, offer};
 use sfc_walk::offer_chunks;
+use std::io;
 
 // How many bytes of two buffers are store and marks, the rebuild in the third, what is lent for one answer, and the tallies.
 #[derive(Drop)]
@@ -104,17 +105,17 @@ fn with_tally(t: Tallies, at: u32, count: u32) -> Tallies {
     }
 }
 
-fn print_verdict(verdict: Verdict) {
+fn print_verdict(rt: &impl Print, verdict: Verdict) -> io::Result<()> {
     match verdict {
         Verdict::Fresh(index, place) => {
-            print::field(b"fresh ", index.0 as u64);
-            print::field(b" ", place.0 as u64);
+            print::field(rt, "fresh ", index.0 as u64)?;
+            print::field(rt, " ", place.0 as u64)
         }
         Verdict::Repeat(index, place) => {
-            print::field(b"repeat ", index.0 as u64);
-            print::field(b" ", place.0 as u64);
+            print::field(rt, "repeat ", index.0 as u64)?;
+            print::field(rt, " ", place.0 as u64)
         }
-        Verdict::Refused(reason) => print::decimal(number_of(reason) as u64),
+        Verdict::Refused(reason) => print::decimal(rt, number_of(reason) as u64),
     }
 }
 
@@ -127,13 +128,14 @@ struct Counts {
 
 // Offers, prints the verdict and the spot, and answers the new counts.
 fn offer_chunk(
+    rt: &impl Print,
     head: Head,
     before: Counts,
     store: &mut [u8],
     marks: &mut [u8],
     scratch: &mut [u8],
     chunk: &[u8],
-) -> Counts {
+) -> io::Result<Counts> {
     let counted = before.tallies;
     let columns = before.finished;
     let answer = offer(head, counted, store, marks, scratch, columns, chunk);
@@ -141,33 +143,35 @@ fn offer_chunk(
     let spot = answer.spot;
     let tallies = answer.tallies;
     let finished = answer.finished;
-    print_verdict(verdict);
-    print::spot(spot);
-    print::line_end();
-    Counts { tallies, finished }
+    print_verdict(rt, verdict)?;
+    print::spot(rt, spot)?;
+    print::line_end(rt)?;
+    Ok(Counts { tallies, finished })
 }
 
 // Offers each chunk, prints where they end and what they left, and answers the new counts.
 fn walk(
+    rt: &impl Print,
     head: Head,
     before: Counts,
     store: &mut [u8],
     marks: &mut [u8],
     scratch: &mut [u8],
     bytes: &[u8],
-) -> Counts {
+) -> io::Result<Counts> {
     let counted = before.tallies;
     let columns = before.finished;
     let walked = offer_chunks(head, counted, store, marks, scratch, columns, bytes);
     let tallies = walked.tallies;
     let finished = walked.finished;
-    print::field(b"walked ", walked.end as u64);
-    print::line_end();
-    show(Counts { tallies, finished }, store, marks, scratch)
+    print::field(rt, "walked ", walked.end as u64)?;
+    print::line_end(rt)?;
+    show(rt, Counts { tallies, finished }, store, marks, scratch)
 }
 
 // The part of the file that a frame names, as one chunk or as all that stand in it.
 fn offer_part(
+    rt: &impl Print,
     frame: Frame,
     head: Head,
     before: Counts,
@@ -175,55 +179,62 @@ fn offer_part(
     marks: &mut [u8],
     scratch: &mut [u8],
     file: &[u8],
-) -> Counts {
+) -> io::Result<Counts> {
     let start = little::within8(frame.a as usize, file);
     let rest = &file[start..];
     let end = little::within8(frame.b as usize, rest);
     if frame.opcode == frame::OFFER {
-        return offer_chunk(head, before, store, marks, scratch, &rest[..end]);
+        return offer_chunk(rt, head, before, store, marks, scratch, &rest[..end]);
     }
-    walk(head, before, store, marks, scratch, &rest[..end])
+    walk(rt, head, before, store, marks, scratch, &rest[..end])
 }
 
-fn print_count(count: u32) {
-    print::field(b" ", count as u64);
+fn print_count(rt: &impl Print, count: u32) -> io::Result<()> {
+    print::field(rt, " ", count as u64)
 }
 
-fn print_refusals(refused: [u32; 13]) {
+fn print_refusals(rt: &impl Print, refused: [u32; 13]) -> io::Result<()> {
     let mut left: usize = 13;
     while 0 < left {
-        print_count(refused[13 - left]);
+        print_count(rt, refused[13 - left])?;
         left -= 1;
     }
-    print::line_end();
+    print::line_end(rt)
 }
 
-fn print_tallies(t: Tallies) {
+fn print_tallies(rt: &impl Print, t: Tallies) -> io::Result<()> {
     let refused = t.refused;
-    print::text(b"tallies");
-    print_count(t.fresh);
-    print_count(t.repeat);
-    print_refusals(refused);
+    print::text(rt, "tallies")?;
+    print_count(rt, t.fresh)?;
+    print_count(rt, t.repeat)?;
+    print_refusals(rt, refused)
 }
 
 // Prints all that a session has; the answer is its counts as they were.
-fn show(counts: Counts, store: &[u8], marks: &[u8], scratch: &[u8]) -> Counts {
+fn show(
+    rt: &impl Print,
+    counts: Counts,
+    store: &[u8],
+    marks: &[u8],
+    scratch: &[u8],
+) -> io::Result<Counts> {
     let hash = blake3::hash(store);
     let tallies = counts.tallies;
     let finished = counts.finished;
-    print::bytes(b"marks ", marks);
-    print::line_end();
-    print::bytes(b"store ", &hash);
-    print::line_end();
-    print_tallies(tallies);
-    print::text(b"rebuild");
-    print::work(scratch, finished);
-    print::line_end();
-    counts
+    print::bytes(rt, "marks ", marks)?;
+    print::line_end(rt)?;
+    print::bytes(rt, "store ", &hash)?;
+    print::line_end(rt)?;
+    print_tallies(rt, tallies)?;
+    print::text(rt, "rebuild")?;
+    print::work(rt, scratch, finished)?;
+    print::line_end(rt)?;
+    Ok(counts)
 }
 
 // Frames that ask what a session knows or gives back; the answer is how many columns are finished after it.
 fn ask(
+    rt: &impl Print,
     frame: Frame,
     head: Head,
     lent: Scratch,
@@ -231,14 +242,15 @@ fn ask(
     store: &[u8],
     marks: &[u8],
     scratch: &mut [u8],
-) -> ColumnCount {
-    known::ask(frame, head, store, marks);
-    hand_out::ask(frame, head, lent, store, marks);
-    turns::ask(frame, head, lent, finished, store, marks, scratch)
+) -> io::Result<ColumnCount> {
+    known::ask(rt, frame, head, store, marks)?;
+    hand_out::ask(rt, frame, head, lent, store, marks)?;
+    turns::ask(rt, frame, head, lent, finished, store, marks, scratch)
 }
 
 // A frame on store, marks and scratch as long as they are lent.
 fn serve_lent(
+    rt: &impl Print,
     frame: Frame,
     head: Head,
     lent: Scratch,
@@ -247,28 +259,29 @@ fn serve_lent(
     marks: &mut [u8],
     scratch: &mut [u8],
     file: &[u8],
-) -> Counts {
+) -> io::Result<Counts> {
     let opcode = frame.opcode;
     let tallies = before.tallies;
     let finished = before.finished;
     match opcode {
-        frame::SET_TALLY => Counts {
+        frame::SET_TALLY => Ok(Counts {
             tallies: with_tally(tallies, frame.a, frame.b),
             finished,
-        },
+        }),
         frame::OFFER | frame::OFFER_CHUNKS => {
-            offer_part(frame, head, before, store, marks, scratch, file)
+            offer_part(rt, frame, head, before, store, marks, scratch, file)
         }
-        frame::SHOW => show(before, store, marks, scratch),
-        _ => Counts {
-            tallies,
-            finished: ask(frame, head, lent, finished, store, marks, scratch),
-        },
+        frame::SHOW => show(rt, before, store, marks, scratch),
+        _ => {
+            let finished = ask(rt, frame, head, lent, finished, store, marks, scratch)?;
+            Ok(Counts { tallies, finished })
+        }
     }
 }
 
 // A frame on a session that has begun; the rebuild is as the frame hands it in.
 fn serve_begun(
+    rt: &impl Print,
     frame: Frame,
     head: Head,
     session: Session,
@@ -276,7 +289,7 @@ fn serve_begun(
     marks: &mut [u8],
     buffer: &mut [u8],
     file: &[u8],
-) -> Session {
+) -> io::Result<Session> {
     let scratch = session.scratch;
     let work = session.work;
     let tallies = session.tallies;
@@ -285,6 +298,7 @@ fn serve_begun(
     let marks_end = little::within8(session.marks, marks);
     let scratch_end = little::within8(work.bytes, buffer);
     let counts = serve_lent(
+        rt,
         frame,
         head,
         scratch,
@@ -293,22 +307,21 @@ fn serve_begun(
         &mut marks[..marks_end],
         &mut buffer[..scratch_end],
         file,
-    );
-    let tallies_after = counts.tallies;
-    let finished_after = counts.finished;
-    Session {
+    )?;
+    Ok(Session {
         store: session.store,
         marks: session.marks,
         work: Work {
             bytes: work.bytes,
-            finished: finished_after,
+            finished: counts.finished,
         },
         scratch,
-        tallies: tallies_after,
-    }
+        tallies: counts.tallies,
+    })
 }
 
 pub(crate) fn serve(
+    rt: &impl Print,
     frame: Frame,
     head: Head,
     session: Session,
@@ -316,17 +329,17 @@ pub(crate) fn serve(
     marks: &mut [u8],
     buffer: &mut [u8],
     file: &[u8],
-) -> Session {
+) -> io::Result<Session> {
     let scratch_before = session.scratch;
     let work_before = session.work;
     let tallies = session.tallies;
     let scratch = hand_out::scratch_after(frame, scratch_before);
     if frame.opcode == frame::BEGIN {
-        return begin(frame, work::blank(head, buffer), scratch, store, marks);
+        return Ok(begin(frame, work::blank(head, buffer), scratch, store, marks));
     }
     if frame.opcode == frame::LEND {
         let work = work_lent(frame, head, work_before, buffer);
-        return lend(frame, work, scratch, store, marks, file);
+        return Ok(lend(frame, work, scratch, store, marks, file));
     }
     let work = work::after(frame, work_before, buffer, file);
     let lent = Session {
@@ -336,5 +349,5 @@ pub(crate) fn serve(
         scratch,
         tallies,
     };
-    serve_begun(frame, head, lent, store, marks, buffer, file)
+    serve_begun(rt, frame, head, lent, store, marks, buffer, file)
 }

@@ -1,8 +1,9 @@
 // One answer for each of many sets of marks.
 use crate::frame::Frame;
 use crate::hand_out::Told;
-use crate::{edit, hand_out, print};
+use crate::{edit, hand_out, print, room};
 use sfc::Head;
+use std::io;
 
 // The most sets of one frame.
 const MOST: usize = 256;
@@ -118,6 +119,7 @@ fn try_sets(
 }
 
 pub(crate) fn sweep(
+    rt: &impl Print,
     frame: Frame,
     head: Head,
     budget: u32,
@@ -126,9 +128,9 @@ pub(crate) fn sweep(
     scratch: &mut [u8],
     numbers: &mut [u16],
     out: &mut [u8],
-) {
-    let mut seen = io::large_buffer();
-    let mut copied = io::buffer();
+) -> io::Result<()> {
+    let mut seen = room::large_buffer();
+    let mut copied = room::buffer();
     let mut digest = [0u8; 32];
     let seen_end = little::within8(store.len(), &seen);
     let copied_end = little::within8(marks.len(), &copied);
@@ -144,8 +146,8 @@ pub(crate) fn sweep(
         out,
         &mut digest,
     );
-    print::field(b"sets ", little::least(frame.b as usize, MOST) as u64);
-    print::field(b" given ", given as u64);
-    print::bytes(b" ", &digest);
-    print::line_end();
+    print::field(rt, "sets ", little::least(frame.b as usize, MOST) as u64)?;
+    print::field(rt, " given ", given as u64)?;
+    print::bytes(rt, " ", &digest)?;
+    print::line_end(rt)
 }

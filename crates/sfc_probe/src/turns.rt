@@ -1,8 +1,9 @@
 // Frames that rebuild in turns and release, one call at a time, and the hand-out that such calls come to.
 use crate::frame::Frame;
 use crate::hand_out::{Scratch, Told};
-use crate::{frame, hand_out, print};
+use crate::{frame, hand_out, print, room};
 use sfc::{ColumnCount, HandedOut, Head, Turned, number_of, rebuild_turn, release};
+use std::io;
 
 // No block has as many word columns, so a hand-out has fewer turns.
 const MOST_TURNS: u32 = 2049;
@@ -137,22 +138,23 @@ pub(crate) fn hand_out(
     told(handed, left, progress.turns)
 }
 
-fn print_turned(turned: Turned) {
+fn print_turned(rt: &impl Print, turned: Turned) -> io::Result<()> {
     match turned {
-        Turned::Did(count) => print::field(b"did ", count.0 as u64),
-        Turned::Refused(reason) => print::decimal(number_of(reason) as u64),
+        Turned::Did(count) => print::field(rt, "did ", count.0 as u64),
+        Turned::Refused(reason) => print::decimal(rt, number_of(reason) as u64),
     }
 }
 
-fn print_handed(handed: HandedOut) {
+fn print_handed(rt: &impl Print, handed: HandedOut) -> io::Result<()> {
     match handed {
-        HandedOut::Complete(end) => print::field(b"complete ", end.0 as u64),
-        HandedOut::Refused(reason) => print::decimal(number_of(reason) as u64),
+        HandedOut::Complete(end) => print::field(rt, "complete ", end.0 as u64),
+        HandedOut::Refused(reason) => print::decimal(rt, number_of(reason) as u64),
     }
 }
 
 // A turn of a columns on the session's scratch; the answer is how many are then finished.
 fn turn(
+    rt: &impl Print,
     frame: Frame,
     head: Head,
     lent: Scratch,
@@ -160,7 +162,7 @@ fn turn(
     store: &[u8],
     marks: &[u8],
     scratch: &mut [u8],
-) -> ColumnCount {
+) -> io::Result<ColumnCount> {
     let mut room = hand_out::numbers_room();
     let end = little::within16(lent.numbers, &room);
     let numbers = &mut room[..end];
@@ -168,39 +170,41 @@ fn turn(
     let answer = rebuild_turn(head, store, marks, scratch, numbers, before, frame.a);
     let turned = answer.turned;
     let finished = answer.finished;
-    print_turned(turned);
-    print::work(scratch, finished);
-    print::text(b" numbers ");
-    hand_out::print_state(hand_out::numbers_state(numbers));
-    print::line_end();
-    finished
+    print_turned(rt, turned)?;
+    print::work(rt, scratch, finished)?;
+    print::text(rt, " numbers ")?;
+    hand_out::print_state(rt, hand_out::numbers_state(numbers))?;
+    print::line_end(rt)?;
+    Ok(finished)
 }
 
 // A release into an output of a bytes.
 fn release_into(
+    rt: &impl Print,
     frame: Frame,
     head: Head,
     before: ColumnCount,
     store: &[u8],
     marks: &[u8],
     scratch: &mut [u8],
-) -> ColumnCount {
-    let mut room = io::large_buffer();
+) -> io::Result<ColumnCount> {
+    let mut room = room::large_buffer();
     let end = little::within8(frame.a as usize, &room);
     let out = &mut room[..end];
     little::fill8(out, 0xA5);
     let released = release(head, store, marks, scratch, before, out);
     let handed = released.handed;
     let finished = released.finished;
-    print_handed(handed);
-    print::output(out);
-    print::work(scratch, finished);
-    print::line_end();
-    finished
+    print_handed(rt, handed)?;
+    print::output(rt, out)?;
+    print::work(rt, scratch, finished)?;
+    print::line_end(rt)?;
+    Ok(finished)
 }
 
 // The answer is how many columns are finished after the frame.
 pub(crate) fn ask(
+    rt: &impl Print,
     frame: Frame,
     head: Head,
     lent: Scratch,
@@ -208,11 +212,11 @@ pub(crate) fn ask(
     store: &[u8],
     marks: &[u8],
     scratch: &mut [u8],
-) -> ColumnCount {
+) -> io::Result<ColumnCount> {
     let opcode = frame.opcode;
     match opcode {
-        frame::TURN => turn(frame, head, lent, finished, store, marks, scratch),
-        frame::RELEASE => release_into(frame, head, finished, store, marks, scratch),
-        _ => finished,
+        frame::TURN => turn(rt, frame, head, lent, finished, store, marks, scratch),
+        frame::RELEASE => release_into(rt, frame, head, finished, store, marks, scratch),
+        _ => Ok(finished),
     }
 }

@@ -1,8 +1,9 @@
 // The frame that writes a file from inputs that stand in the file.
 use crate::edit::Sizes;
 use crate::frame::Frame;
-use crate::{edit, print};
+use crate::{edit, print, room};
 use sfc::{FileFacts, write};
+use std::io;
 
 // The 16 bytes at 8.
 fn uuid_of(inputs: &[u8]) -> [u8; 16] {
@@ -35,7 +36,13 @@ fn put_indices(bytes: &[u8], list: &mut [u32]) -> usize {
 }
 
 // The list, the fields and the content, after the name.
-fn write_after_name(inputs: &[u8], name: &[u8], rest: &[u8], out: &mut [u8]) -> usize {
+fn write_after_name(
+    rt: &impl Print,
+    inputs: &[u8],
+    name: &[u8],
+    rest: &[u8],
+    out: &mut [u8],
+) -> io::Result<usize> {
     let mut room = [0u32; 2048];
     let list_end = little::within8(4 * little::read16(inputs, 38) as usize, rest);
     let after_list = &rest[list_end..];
@@ -50,32 +57,37 @@ fn write_after_name(inputs: &[u8], name: &[u8], rest: &[u8], out: &mut [u8]) -> 
         &after_list[..fields_end],
         out,
     );
-    print::written(b"written ", written)
+    print::written(rt, "written ", written)
 }
 
-fn write_from(inputs: &[u8], out: &mut [u8]) -> usize {
+fn write_from(rt: &impl Print, inputs: &[u8], out: &mut [u8]) -> io::Result<usize> {
     let start = little::within8(44, inputs);
     let rest = &inputs[start..];
     let name_end = little::within8(little::read16(inputs, 36) as usize, rest);
-    write_after_name(inputs, &rest[..name_end], &rest[name_end..], out)
+    write_after_name(rt, inputs, &rest[..name_end], &rest[name_end..], out)
 }
 
 // Writes into an output of a bytes; a file that was written becomes the file.
-pub(crate) fn become_written(frame: Frame, sizes: Sizes, file: &mut [u8]) -> Sizes {
-    let mut room = io::large_buffer();
+pub(crate) fn become_written(
+    rt: &impl Print,
+    frame: Frame,
+    sizes: Sizes,
+    file: &mut [u8],
+) -> io::Result<Sizes> {
+    let mut room = room::large_buffer();
     let end = little::within8(frame.a as usize, &room);
     let out = &mut room[..end];
     little::fill8(out, 0xA5);
     let inputs = little::within8(sizes.file, file);
-    let length = write_from(&file[..inputs], out);
-    print::output(out);
-    print::line_end();
+    let length = write_from(rt, &file[..inputs], out)?;
+    print::output(rt, out)?;
+    print::line_end(rt)?;
     if length == 0 {
-        return sizes;
+        return Ok(sizes);
     }
     edit::copy(out, file);
-    Sizes {
+    Ok(Sizes {
         file: length,
         kept: sizes.kept,
-    }
+    })
 }

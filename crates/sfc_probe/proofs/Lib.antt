@@ -1,2 +1,0 @@
--- What the proofs of the probe's functions cite.
-mod Counted
