@@ -1,6 +1,6 @@
 #!/usr/bin/env bash
 # blake3.sh: the speed of the proved hash against a plain scalar implementation, in one run, and against `b3sum --num-threads 1`
-# where that is there. A time under the emulator says nothing, so the library is compiled for this machine. Not part of the gate.
+# where that is there. Not part of the gate.
 set -euo pipefail
 cd "$(dirname "$0")/.."
 bench/native-lib blake3_native >/dev/null

@@ -9,7 +9,7 @@ slice=5000
 room=target/flood
 mkdir -p "$room"
 rustc --edition 2021 -C opt-level=3 -o "$room/second" second/src/main.rs
-rt check sfc_probe
+(cd crates/sfc_probe && rt run <stdin >/dev/null)
 
 # Says which file of the slice the two programs differ on, and how.
 report() {

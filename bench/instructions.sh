@@ -1,6 +1,7 @@
 #!/usr/bin/env bash
 # instructions.sh REVISION: how many x86-64 instructions encoding and rebuilding take, at that revision and now, counted by the
-# emulator that the kit has on other machines, whose times say nothing. It wants such a machine. Not part of the gate.
+# emulator that older kits had on other machines, whose times say nothing; today's kit has none, and it then says so. Not part of
+# the gate.
 set -euo pipefail
 cd "$(dirname "$0")/.."
 revision=$(git rev-parse --verify "${1:?usage: instructions.sh REVISION}^{commit}")
@@ -9,7 +10,7 @@ tools=$kit/on/$(uname -m)/toolchain/bin
 [ -x "$tools/qemu-x86_64" ] || { printf 'the kit has no emulator here: cauchy.sh measures times\n' >&2; exit 1; }
 bench/native-lib cauchy_native >/dev/null
 bench/native-before "$revision" cauchy_native
-declare -A archive=([before]=target/before/$revision/target/staticlib/libcauchy_native.a [now]=target/staticlib/libcauchy_native.a)
+declare -A archive=([before]=target/before/$revision/target/native/libcauchy_native.a [now]=target/native/libcauchy_native.a)
 room=$(mktemp -d)
 trap 'rm -rf "$room"' EXIT
 
