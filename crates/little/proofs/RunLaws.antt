@@ -1,16 +1,18 @@
--- What the tests over runs decide, a turn of the loops over them, and the smaller of two lengths. Assumes nothing.
-use Prim.Native.Nat.{ℕ, ◌+◌, ◌-◌, ◌<◌, ◌≤◌, min}
+-- What the tests over runs decide, as the library makes them, and the smaller of two lengths. Assumes nothing.
+use Prim.Native.Nat.{ℕ, ◌-◌, ◌<◌, ◌≤◌, min}
 use mathlib.Core.Path.{◌≡◌, refl, sym, ap, ap₂, ◌∙◌}
 use mathlib.Core.List.{List, [], ◌∷◌}
 use mathlib.Core.Logic.{◌⊎◌, inl, inr, ⊎_elim}
 use mathlib.Core.Bool.{Bool, true, false, ◌&&◌, true≢false, false≢true}
 use native.Mathlib.Nat.{min-eq_left, min_comm}
 use native.Mathlib.Omega.{arith}
-use borrow.Author.Count.{below_more}
 use borrow.Author.Tests.{eq-eqb, eqb-true}
 use lib.Dec.{eqb}
-use lib.ListN.{length, get_or, take, drop, set, length-set, replicate, length-replicate, get_or-replicate}
-use lib.Seq.{drop-length, length-take-le, get_or-set_same, get_or-set_other, ext_get_or}
+use lib.ListN.{length, get_or, take, drop}
+use lib.Seq.{length-take-le}
+use Rattle.std.proofs.Common.{nat_eq}
+use Rattle.std.specs.List.{list_all}
+use Rattle.std.specs.Cmp.Lexicographic.{pointwise}
 use Rattle.little.specs.Runs.{same, are_all}
 use Rattle.little.proofs.PartLaws.{below_or, drop_down}
 use Rattle.little.proofs.TestLaws.{and_both}
@@ -35,32 +37,16 @@ pub counted : (n r : ℕ) (xs : List ℕ) → (r ≡ min n (length xs)) × (r �
     → (r ≡ min n (length xs)) × (r ≤ length xs) × (r ≡ length (take r xs))
 counted n r xs h = (h.0, h.2, sym (length-take-le r xs h.2))
 
--- ---- one value over all of a list
+-- ---- whether each is that value, as the library tests each element
 
--- the first i elements of d, which is as long as d₀, are that value
-abbrev pub Filled : ℕ → List ℕ → List ℕ → ℕ → Type 0
-Filled value d₀ d i = (i ≤ length d₀) × (length d ≡ length d₀) × ((k : ℕ) → k < i → get_or d k 0 ≡ value)
-
-pub filled_more : (value : ℕ) (d₀ d : List ℕ) (i : ℕ) → Filled value d₀ d i → i < length d → Filled value d₀ (set d i value) (i + 1)
-filled_more value d₀ d i f h = (
-  omega (arith, f.1),
-  length-set d i value ∙ f.1,
-  below_more (λ (k : ℕ). get_or (set d i value) k 0 ≡ value) i (λ k u. get_or-set_other d i k value 0 (omega arith) ∙ f.2 k u) (get_or-set_same d i value 0 h),
-)
-
-pub filled-all : (value : ℕ) (d₀ d : List ℕ) (i : ℕ) → Filled value d₀ d i → length d ≤ i → d ≡ replicate (length d₀) value
-filled-all value d₀ d i f h =
-    ext_get_or 0 d (replicate (length d₀) value) (f.1 ∙ sym (length-replicate {A = ℕ} (length d₀) value))
-    (λ k u. f.2 k (omega arith) ∙ sym (get_or-replicate {A = ℕ} (length d₀) k value 0 (omega (arith, f.1))))
-
--- ---- whether each is that value, for a loop that counts i down
-
-pub all_start : (value : ℕ) (xs : List ℕ) → true ≡ are_all value (drop (length xs) xs)
+pub each_that : {A : Type 0} (test : A → A → Bool) (x : A) (xs : List A) → list_all (λ (y : A). test y x) xs ≡ are_all test x xs
 unfolding are_all
-all_start value xs = rw (drop-length xs)
+each_that test x [] = refl
+each_that test x (y ∷ ys) = ap (λ (t : Bool). test y x && t) (each_that test x ys)
 
-pub all-turn : (value : ℕ) (xs : List ℕ) (i : ℕ) (all : Bool) → 0 < i → i ≤ length xs → all ≡ are_all value (drop i xs)
-    → (eqb (get_or xs (i - 1) 0) value && all) ≡ are_all value (drop (i - 1) xs)
+-- for a walk from the back: with the element before those that are tested, the test goes on by that one
+pub all-turn : (value : ℕ) (xs : List ℕ) (i : ℕ) (all : Bool) → 0 < i → i ≤ length xs → all ≡ are_all eqb value (drop i xs)
+    → (eqb (get_or xs (i - 1) 0) value && all) ≡ are_all eqb value (drop (i - 1) xs)
 unfolding are_all
 all-turn value xs i all h k e = rw (drop_down xs i h k, e)
 
@@ -90,14 +76,10 @@ same_differ a b n = go (same a b) refl
 pub same_apart : (a b : List ℕ) → same a b ≡ false → a ≡ b → ⊥
 same_apart a b e q = true≢false (sym (same_refl a) ∙ ap (same a) q ∙ e)
 
-pub other_length : (a b : List ℕ) → (length a ≡ length b → ⊥) → false ≡ same a b
-other_length a b n = sym (same_differ a b (λ e. n (ap length e)))
-
-pub same_start : (a b : List ℕ) → length a ≡ length b → true ≡ same (drop (length a) a) (drop (length a) b)
+-- as the library compares two slices
+pub same_pointwise : (a b : List ℕ) → pointwise nat_eq a b ≡ same a b
 unfolding same
-same_start a b e = rw (drop-length a, e, drop-length b)
-
-pub same_turn : (a b : List ℕ) (i : ℕ) (equal : Bool) → 0 < i → i ≤ length a → length a ≡ length b → equal ≡ same (drop i a) (drop i b)
-    → (eqb (get_or a (i - 1) 0) (get_or b (i - 1) 0) && equal) ≡ same (drop (i - 1) a) (drop (i - 1) b)
-unfolding same
-same_turn a b i equal h k e f = rw (drop_down a i h k, drop_down b i h (omega arith), f)
+same_pointwise [] [] = refl
+same_pointwise [] (y ∷ ys) = refl
+same_pointwise (x ∷ xs) [] = refl
+same_pointwise (x ∷ xs) (y ∷ ys) = ap (λ (t : Bool). eqb x y && t) (same_pointwise xs ys)

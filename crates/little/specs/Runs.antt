@@ -14,10 +14,10 @@ any p (x ∷ xs) = p x || any p xs
 abbrev pub among : ℕ → List ℕ → Bool
 among x xs = any (λ (y : ℕ). eqb x y) xs
 
--- whether each of them is x
-unfoldable pub are_all : ℕ → List ℕ → Bool
-are_all x [] = true
-are_all x (y ∷ ys) = eqb y x && are_all x ys
+-- whether each of them is x, by a test of two
+unfoldable pub are_all : {A : Type 0} → (A → A → Bool) → A → List A → Bool
+are_all test x [] = true
+are_all test x (y ∷ ys) = test y x && are_all test x ys
 
 -- whether two lists are the same
 unfoldable pub same : List ℕ → List ℕ → Bool

@@ -7,6 +7,3 @@ use Rattle.little.proofs.read.Given as goal
 
 abbrev pub invariant-loop-i : goal.invariant-loop-i
 invariant-loop-i l = (l.i ≤ l.width) × (0 < l.i → l.at + l.i ≤ length l.s) × (l.v ≡ le l.s (l.at + l.i) (l.width - l.i))
-
-abbrev pub decreases-loop-i : goal.decreases-loop-i
-decreases-loop-i l = l.i

@@ -13,4 +13,4 @@ returns-then-d-width-2 c = let a = c.args in unstored a.d.now a.at a.width a.v (
 pub returns : goal.returns
 returns c =
     let a = c.args in
-    stored-whole a.d.now _ a.at a.width a.v _ (omega arith) refl c.fill.ensures
+    stored-whole a.d.now _ a.at a.width a.v _ (omega arith) refl c.store.ensures
