@@ -1,13 +1,12 @@
 -- `running_any-cut` and `fed_bytes`: however a text is cut, the finish is its hash; and a feed within the limit. Assumes
 -- nothing.
 use Rattle.std.proofs.Common.{◌≡◌, ℕ, suc, ◌+◌, ◌≤◌, List, [], ◌∷◌, ◌++◌, length, sym, refl, ◌∙◌, append_assoc, append-nil, add-zero, arith, length-append, le-ltb}
+use Rattle.std.specs.Prelude.{Ok}
 use Rattle.blake3.specs.Running.{most_fed, with_byte, with_bytes, fresh, fed_with, fed_all, AllTaken, joined, RunningAnyCut, FedBytes}
 use Rattle.blake3.specs.declared.running.Running.{Running}
-use Rattle.blake3.specs.declared.running.Fed.{Fed}
-use Rattle.blake3.specs.declared.running.Answer.TheVariants.{Done}
 use Rattle.blake3.proofs.Holding.{Holds, holds_fresh, bytes_hold, finish_holds}
 
-pub fed_within : (r : Running) (p : List ℕ) → r.fed + length p ≤ most_fed → ◌≡◌ {A = Fed} (fed_with r p) (record { answer = Done; state = with_bytes r p })
+pub fed_within : (r : Running) (p : List ℕ) → r.fed + length p ≤ most_fed → fed_with r p ≡ Ok (with_bytes r p)
 unfolding fed_with
 fed_within r p le = rw (le-ltb most_fed (r.fed + length p) le)
 

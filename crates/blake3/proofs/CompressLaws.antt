@@ -1,12 +1,18 @@
 -- Laws of the compression, which the proofs of its functions cite: a rotation by shifts, a half round from its four
 -- mixing steps, seven rounds from their halves, words and blocks from bytes. Assumes nothing.
-use Rattle.std.proofs.Common.{◌≡◌, ℕ, zero, suc, ◌+◌, ◌-◌, ◌*◌, ◌/◌, ◌%◌, ◌^◌, ◌<◌, List, [], ◌∷◌, ◌++◌, get_or, replicate, sym, refl, subst, add-zero, arith, shr_lt}
+use Rattle.std.proofs.Common.{◌≡◌, ℕ, zero, suc, ◌+◌, ◌-◌, ◌*◌, ◌/◌, ◌%◌, ◌^◌, ◌<◌, ◌≤◌, List, [], ◌∷◌, ◌++◌, length, take, drop, get_or, replicate, sym, refl, subst, ap, ◌∙◌, append_assoc, add-zero, arith, shr_lt, drop-cons, length-drop, take_all, get_or-take}
 use native.Mathlib.Nat.{mul-mod_left}
-use lib.Bits.{bit_or, or_shifted_r}
+use lib.Bits.{bit_or, bit_xor, or_shifted_r}
+use Rattle.std.specs.Int.{rotate_right, from_le_bytes, to_le_bytes, w32}
+use Rattle.std.proofs.Math.Seq.{take-suc}
+use Rattle.std.proofs.lemmas.Nat.{xor_of_32}
+use Rattle.std.proofs.lemmas.Slice.{take-put_mid}
+use borrow.Rule.Slice.PartMut.{put_mid}
 use lib.Pow.{mod-pow-add, shl-shr}
-use Rattle.little.specs.Fields.{le, bytes_of, fits, put_le}
-use Rattle.blake3.specs.Compress.{at, mixed, columns, diagonals, round, reordered, rounds, compressed, words_from, bytes_of_words, start_value}
-use Rattle.blake3.specs.Tree.{block_words, parent, start_flag}
+use Rattle.little.specs.Fields.{le, bytes_of}
+use Rattle.little.proofs.Laws.{part_laws, put_laws, byte_laws}
+use Rattle.blake3.specs.Compress.{at, sum32, rotated, mixed, columns, diagonals, round, reordered, rounds, words_from, bytes_of_words}
+use Rattle.blake3.specs.Tree.{block_words}
 
 -- j + k bits rotated right by k
 rotate : (x j k : ℕ) → x < 2 ^ (j + k) → bit_or (x / 2 ^ k) ((x * 2 ^ j) % 2 ^ (k + j)) ≡ x % 2 ^ k * 2 ^ j + x / 2 ^ k
@@ -19,25 +25,59 @@ rotate32 x k h lt =
     subst (λ (n : ℕ). bit_or (x / 2 ^ k) ((x * 2 ^ (32 - k)) % 2 ^ n) ≡ x % 2 ^ k * 2 ^ (32 - k) + x / 2 ^ k) e
     (rotate x (32 - k) k (subst (λ (n : ℕ). x < 2 ^ n) (sym e') h))
 
-pub columns-made : (v m p q r s : List ℕ)
-    → p ≡ mixed (at v 0) (at v 4) (at v 8) (at v 12) (at m 0) (at m 1)
-    → q ≡ mixed (at v 1) (at v 5) (at v 9) (at v 13) (at m 2) (at m 3)
-    → r ≡ mixed (at v 2) (at v 6) (at v 10) (at v 14) (at m 4) (at m 5)
-    → s ≡ mixed (at v 3) (at v 7) (at v 11) (at v 15) (at m 6) (at m 7)
-    → at p 0 ∷ at q 0 ∷ at r 0 ∷ at s 0 ∷ at p 1 ∷ at q 1 ∷ at r 1 ∷ at s 1 ∷ at p 2 ∷ at q 2 ∷ at r 2 ∷ at s 2 ∷ at p 3 ∷ at q 3 ∷ at r 3 ∷ at s 3 ∷ [] ≡ columns v m
-unfolding columns
-columns-made v m p q r s ep eq er es = rw (ep, eq, er, es)
+-- a rotation by the library's method
+by_rotate_right : (x k : ℕ) {r : ℕ} → x < 2 ^ 32 → k < 32 → r ≡ bit_or (x / 2 ^ k) ((x * 2 ^ (32 - k)) % 2 ^ 32) → r ≡ rotated x k
+unfolding rotated
+by_rotate_right x k h lt e = e ∙ rotate32 x k h lt
 
-pub diagonals-made : (v m p q r s : List ℕ)
-    → p ≡ mixed (at v 0) (at v 5) (at v 10) (at v 15) (at m 0) (at m 1)
-    → q ≡ mixed (at v 1) (at v 6) (at v 11) (at v 12) (at m 2) (at m 3)
-    → r ≡ mixed (at v 2) (at v 7) (at v 8) (at v 13) (at m 4) (at m 5)
-    → s ≡ mixed (at v 3) (at v 4) (at v 9) (at v 14) (at m 6) (at m 7)
-    → at p 0 ∷ at q 0 ∷ at r 0 ∷ at s 0 ∷ at s 1 ∷ at p 1 ∷ at q 1 ∷ at r 1 ∷ at r 2 ∷ at s 2 ∷ at p 2 ∷ at q 2 ∷ at q 3 ∷ at r 3 ∷ at s 3 ∷ at p 3 ∷ [] ≡ diagonals v m
-unfolding diagonals
-diagonals-made v m p q r s ep eq er es = rw (ep, eq, er, es)
+mod32 : (x : ℕ) → x % 2 ^ 32 < 2 ^ 32
+mod32 x = omega arith
 
--- the seven rounds, the message's words at the places that each round takes them from
+-- the mixing step from its four rotations
+pub mixed-made : (a b c d x y : ℕ) {d₁ b₁ d₂ b₂ : ℕ} → b < 2 ^ 32 → d < 2 ^ 32 → d₁ < 2 ^ 32 → b₁ < 2 ^ 32
+    → d₁ ≡ rotate_right w32 (bit_xor d (sum32 (sum32 a b) x)) 16
+    → b₁ ≡ rotate_right w32 (bit_xor b (sum32 c d₁)) 12
+    → d₂ ≡ rotate_right w32 (bit_xor d₁ (sum32 (sum32 (sum32 (sum32 a b) x) b₁) y)) 8
+    → b₂ ≡ rotate_right w32 (bit_xor b₁ (sum32 (sum32 c d₁) d₂)) 7
+    → sum32 (sum32 (sum32 (sum32 a b) x) b₁) y ∷ b₂ ∷ sum32 (sum32 c d₁) d₂ ∷ d₂ ∷ [] ≡ mixed a b c d x y
+unfolding mixed
+mixed-made a b c d x y {d₁} {b₁} {d₂} {b₂} fb fd fd₁ fb₁ e₁ e₂ e₃ e₄ =
+    let r₁ : d₁ ≡ rotated (bit_xor d (sum32 (sum32 a b) x)) 16 = by_rotate_right _ 16 (xor_of_32 _ _ fd (mod32 _)) (omega arith) e₁ in
+    let r₂ : b₁ ≡ rotated (bit_xor b (sum32 c d₁)) 12 = by_rotate_right _ 12 (xor_of_32 _ _ fb (mod32 _)) (omega arith) e₂ in
+    let r₃ : d₂ ≡ rotated (bit_xor d₁ (sum32 (sum32 (sum32 (sum32 a b) x) b₁) y)) 8 = by_rotate_right _ 8 (xor_of_32 _ _ fd₁ (mod32 _)) (omega arith) e₃ in
+    let r₄ : b₂ ≡ rotated (bit_xor b₁ (sum32 (sum32 c d₁) d₂)) 7 = by_rotate_right _ 7 (xor_of_32 _ _ fb₁ (mod32 _)) (omega arith) e₄ in
+    rw (r₄, r₃, r₂, r₁)
+
+-- n elements of a list, from index j + k on
+reads_from : ℕ → ℕ → ℕ → List ℕ → List ℕ
+reads_from zero k j l = []
+reads_from (suc n) k j l = at l (j + k) ∷ reads_from n (suc k) j l
+
+reads_take : (n k j : ℕ) (l : List ℕ) → j + k + n ≤ length l → take n (drop (j + k) l) ≡ reads_from n k j l
+unfolding reads_from
+reads_take zero k j l h = refl
+reads_take (suc n) k j l h =
+    let lt : j + k < length l = omega arith in
+    let e : suc (j + k) ≡ j + suc k = omega arith in
+    let le : j + suc k + n ≤ length l = omega arith in
+    ap (λ (r : List ℕ). take (suc n) r) (drop-cons l (j + k) 0 lt)
+    ∙ ap (λ (r : List ℕ). at l (j + k) ∷ r) (ap (λ (m : ℕ). take n (drop m l)) e ∙ reads_take n (suc k) j l le)
+
+-- eight words by their places: the first of a list, and those after them
+pub first_eight : (l : List ℕ) → 8 ≤ length l → at l 0 ∷ at l 1 ∷ at l 2 ∷ at l 3 ∷ at l 4 ∷ at l 5 ∷ at l 6 ∷ at l 7 ∷ [] ≡ take 8 l
+unfolding reads_from
+first_eight l le = sym (reads_take 8 0 0 l le)
+
+pub next_eight : (l : List ℕ) → length l ≡ 16 → at l 8 ∷ at l 9 ∷ at l 10 ∷ at l 11 ∷ at l 12 ∷ at l 13 ∷ at l 14 ∷ at l 15 ∷ [] ≡ drop 8 l
+unfolding reads_from
+next_eight l e =
+    let d : length (drop 8 l) ≤ 8 = omega (arith, length-drop 8 l) in
+    sym (sym (take_all 8 (drop 8 l) d) ∙ reads_take 8 0 8 l (omega arith))
+
+pub all_eight : (l : List ℕ) → length l ≡ 8 → at l 0 ∷ at l 1 ∷ at l 2 ∷ at l 3 ∷ at l 4 ∷ at l 5 ∷ at l 6 ∷ at l 7 ∷ [] ≡ l
+all_eight l e = first_eight l (omega arith) ∙ take_all 8 l (omega arith)
+
+-- seven rounds from their fourteen half rounds, each with the message's words at the places that it takes them from
 pub rounds-made : (m0 m1 m2 m3 m4 m5 m6 m7 m8 m9 m10 m11 m12 m13 m14 m15 : ℕ) (v c1 d1 c2 d2 c3 d3 c4 d4 c5 d5 c6 d6 c7 d7 : List ℕ)
     → c1 ≡ columns v (m0 ∷ m1 ∷ m2 ∷ m3 ∷ m4 ∷ m5 ∷ m6 ∷ m7 ∷ [])
     → d1 ≡ diagonals c1 (m8 ∷ m9 ∷ m10 ∷ m11 ∷ m12 ∷ m13 ∷ m14 ∷ m15 ∷ [])
@@ -57,34 +97,76 @@ pub rounds-made : (m0 m1 m2 m3 m4 m5 m6 m7 m8 m9 m10 m11 m12 m13 m14 m15 : ℕ) 
 unfolding rounds round reordered
 rounds-made m0 m1 m2 m3 m4 m5 m6 m7 m8 m9 m10 m11 m12 m13 m14 m15 v c1 d1 c2 d2 c3 d3 c4 d4 c5 d5 c6 d6 c7 d7 f1 g1 f2 g2 f3 g3 f4 g4 f5 g5 f6 g6 f7 g7 = rw (g7, f7, g6, f6, g5, f5, g4, f4, g3, f3, g2, f2, g1, f1)
 
+pub all_sixteen : (l : List ℕ) → length l ≡ 16
+    → at l 0 ∷ at l 1 ∷ at l 2 ∷ at l 3 ∷ at l 4 ∷ at l 5 ∷ at l 6 ∷ at l 7 ∷ at l 8 ∷ at l 9 ∷ at l 10 ∷ at l 11 ∷ at l 12 ∷ at l 13 ∷ at l 14 ∷ at l 15 ∷ [] ≡ l
+unfolding reads_from
+all_sixteen l e = sym (reads_take 16 0 0 l (omega arith)) ∙ take_all 16 l (omega arith)
+
 -- a word is its four bytes, each read in its own place
-pub word_made : (xs : List ℕ) (j : ℕ) {a b c d : ℕ} → a ≡ get_or xs j 0 → b ≡ get_or xs (j + 1) 0 → c ≡ get_or xs (j + 2) 0 → d ≡ get_or xs (j + 3) 0
-    → a + b * 256 + c * 65536 + d * 16777216 ≡ le xs j 4
+pub word-made : (xs : List ℕ) (j : ℕ) {r : ℕ} → r ≡ from_le_bytes w32 (at xs j ∷ at xs (j + 1) ∷ at xs (j + 2) ∷ at xs (j + 3) ∷ []) → r ≡ le xs j 4
 unfolding le
-word_made xs j ea eb ec ed =
+word-made xs j e =
     let e₁ : j + 1 ≡ suc j = omega arith in
     let e₂ : j + 2 ≡ suc (suc j) = omega arith in
     let e₃ : j + 3 ≡ suc (suc (suc j)) = omega arith in
-    rw (ea, eb, ec, ed, e₁, e₂, e₃) (omega arith)
+    rw (e, e₁, e₂, e₃) (omega arith)
 
-pub block_made : (b : List ℕ) (a0 a1 a2 a3 a4 a5 a6 a7 a8 a9 a10 a11 a12 a13 a14 a15 : ℕ)
+pub block_made : (b : List ℕ) {a0 a1 a2 a3 a4 a5 a6 a7 a8 a9 a10 a11 a12 a13 a14 a15 : ℕ}
     → a0 ≡ le b 0 4 → a1 ≡ le b 4 4 → a2 ≡ le b 8 4 → a3 ≡ le b 12 4 → a4 ≡ le b 16 4 → a5 ≡ le b 20 4 → a6 ≡ le b 24 4 → a7 ≡ le b 28 4 → a8 ≡ le b 32 4 → a9 ≡ le b 36 4 → a10 ≡ le b 40 4 → a11 ≡ le b 44 4 → a12 ≡ le b 48 4 → a13 ≡ le b 52 4 → a14 ≡ le b 56 4 → a15 ≡ le b 60 4
     → a0 ∷ a1 ∷ a2 ∷ a3 ∷ a4 ∷ a5 ∷ a6 ∷ a7 ∷ a8 ∷ a9 ∷ a10 ∷ a11 ∷ a12 ∷ a13 ∷ a14 ∷ a15 ∷ [] ≡ block_words b
 unfolding words_from
-block_made b a0 a1 a2 a3 a4 a5 a6 a7 a8 a9 a10 a11 a12 a13 a14 a15 e0 e1 e2 e3 e4 e5 e6 e7 e8 e9 e10 e11 e12 e13 e14 e15 = rw (e0, e1, e2, e3, e4, e5, e6, e7, e8, e9, e10, e11, e12, e13, e14, e15)
+block_made b e0 e1 e2 e3 e4 e5 e6 e7 e8 e9 e10 e11 e12 e13 e14 e15 = rw (e0, e1, e2, e3, e4, e5, e6, e7, e8, e9, e10, e11, e12, e13, e14, e15)
 
--- the eight words stored one after the other
-pub bytes_made : (w0 w1 w2 w3 w4 w5 w6 w7 : ℕ) (o0 o1 o2 o3 o4 o5 o6 o7 : List ℕ)
-    → o0 ≡ put_le (replicate 32 0) 0 4 w0 → o1 ≡ put_le o0 4 4 w1 → o2 ≡ put_le o1 8 4 w2 → o3 ≡ put_le o2 12 4 w3 → o4 ≡ put_le o3 16 4 w4 → o5 ≡ put_le o4 20 4 w5 → o6 ≡ put_le o5 24 4 w6 → o7 ≡ put_le o6 28 4 w7
-    → o7 ≡ bytes_of_words (w0 ∷ w1 ∷ w2 ∷ w3 ∷ w4 ∷ w5 ∷ w6 ∷ w7 ∷ [])
-unfolding bytes_of_words put_le fits bytes_of
-bytes_made w0 w1 w2 w3 w4 w5 w6 w7 o0 o1 o2 o3 o4 o5 o6 o7 e0 e1 e2 e3 e4 e5 e6 e7 = rw (e7, e6, e5, e4, e3, e2, e1, e0)
+-- words of two lists whose bytes are the same
+words_same : (n j : ℕ) (xs ys : List ℕ) → ((k : ℕ) → k < j + 4 * n → get_or xs k 0 ≡ get_or ys k 0) → words_from n xs j ≡ words_from n ys j
+unfolding words_from
+words_same zero j xs ys f = refl
+words_same (suc n) j xs ys f =
+    rw (byte_laws.le_same 4 xs ys j j (λ k lt. f (j + k) (omega arith))) (ap (λ (ws : List ℕ). le ys j 4 ∷ ws) (words_same n (j + 4) xs ys (λ k lt. f k (omega arith))))
 
-pub parent-made : (l r : List ℕ) (root : ℕ) (x : List ℕ) → x ≡ compressed start_value (l ++ r) 0 64 (4 + root) → x ≡ parent root l r
-unfolding parent
-parent-made l r root x e = e
+-- a block is read from its first bytes alone, and a short one as if zeros stood after it
+pub block_front : (xs : List ℕ) → block_words (take 64 xs) ≡ block_words xs
+block_front xs = words_same 16 0 (take 64 xs) xs (λ k lt. get_or-take 64 xs k 0 lt)
 
--- the flag start is only for block 0
-pub start_more : (k : ℕ) → (k ≡ 0 → ⊥) → 0 ≡ start_flag k
-start_more zero h = absurd (h refl)
-start_more (suc k) h = refl
+get_or-padded : (xs : List ℕ) (n k : ℕ) → get_or (xs ++ replicate n 0) k 0 ≡ get_or xs k 0
+get_or-padded [] zero k = refl
+get_or-padded [] (suc n) zero = refl
+get_or-padded [] (suc n) (suc k) = get_or-padded [] n k
+get_or-padded (x ∷ xs) n zero = refl
+get_or-padded (x ∷ xs) n (suc k) = get_or-padded xs n k
+
+pub block_padded : (xs : List ℕ) → block_words (xs ++ drop (length xs) (replicate 64 0)) ≡ block_words xs
+block_padded xs =
+    ap (λ (zs : List ℕ). block_words (xs ++ zs)) (part_laws.drop-zeros (length xs) 64)
+    ∙ words_same 16 0 (xs ++ replicate (64 - length xs) 0) xs (λ k lt. get_or-padded xs (64 - length xs) k)
+
+-- ---- the bytes of words
+
+words_append : (vs ws : List ℕ) → bytes_of_words (vs ++ ws) ≡ bytes_of_words vs ++ bytes_of_words ws
+unfolding bytes_of_words
+words_append [] ws = refl
+words_append (v ∷ vs) ws = rw (words_append vs ws) (sym (append_assoc (bytes_of 4 v) (bytes_of_words vs) (bytes_of_words ws)))
+
+le_bytes : (n : ℕ) → to_le_bytes w32 n ≡ bytes_of 4 n
+unfolding bytes_of
+le_bytes n =
+    let e : n / 65536 ≡ n / 256 / 256 = omega arith in
+    let e' : n / 16777216 ≡ n / 256 / 256 / 256 = omega arith in
+    rw (e, e')
+
+-- a turn of the loop that stores words one after the other: xs are the bytes before it, and ys the next word's
+pub word_stored : (k : ℕ) (vs xs ys : List ℕ) → k < length vs → 4 * k ≤ length xs → ys ≡ to_le_bytes w32 (at vs k) → take (4 * k) xs ≡ bytes_of_words (take k vs)
+    → take (4 * (k + 1)) (put_mid (4 * k) (4 * k + 4 - 4 * k) xs ys) ≡ bytes_of_words (take (k + 1) vs)
+unfolding bytes_of_words bytes_of
+word_stored k vs xs ys lt room ey inv =
+    let ly : length ys ≡ 4 = ap (λ (l : List ℕ). length l) ey in
+    let n : 4 * (k + 1) ≡ 4 * k + length ys = omega arith in
+    let k₁ : k + 1 ≡ suc k = omega arith in
+    take-put_mid (4 * k) (4 * k + 4 - 4 * k) xs ys (4 * (k + 1)) n room ∙ ap (λ (l : List ℕ). l ++ ys) inv
+    ∙ rw (k₁, take-suc vs k 0 lt) (ap (λ (l : List ℕ). bytes_of_words (take k vs) ++ l) (ey ∙ le_bytes (at vs k)) ∙ sym (words_append (take k vs) (at vs k ∷ [])))
+
+pub long_still : (k : ℕ) (xs ys : List ℕ) → 4 * k + 4 ≤ length xs → length ys ≡ 4 → length (put_mid (4 * k) (4 * k + 4 - 4 * k) xs ys) ≡ length xs
+long_still k xs ys room ly = let e : 4 * k + 4 - 4 * k ≡ length ys = omega arith in rw e (put_laws.length-put xs (4 * k) ys (omega arith))
+
+pub words_all : (k : ℕ) (vs xs : List ℕ) → 8 ≤ k → length vs ≡ 8 → length xs ≡ 32 → take (4 * k) xs ≡ bytes_of_words (take k vs) → xs ≡ bytes_of_words vs
+words_all k vs xs end lv lx inv = sym (take_all (4 * k) xs (omega arith)) ∙ inv ∙ ap bytes_of_words (take_all k vs (omega arith))

@@ -1,19 +1,14 @@
 -- Laws of feeding and finishing, which the proofs of the running hash's methods cite: a full piece settled, a part that
--- fits into the piece, the two answers of each method. Assumes nothing.
-use Rattle.std.proofs.Common.{◌≡◌, ℕ, suc, ◌+◌, ◌-◌, ◌*◌, ◌/◌, ◌%◌, ◌<◌, ◌≤◌, min, Bool, true, false, not, ◌&&◌, eqb, ltb, leb, List, [], ◌∷◌, ◌++◌, length, take, drop, set, sym, refl, ap, ◌∙◌, append_assoc, add-zero, arith, length-drop, length-set, take-append-drop, drop_of_length-le, length-take-le, drop-drop, take-suc-set, drop-set-lt, ltb-false, ne_eqb, eqb-true, leb-false, leb-true}
-use native.Mathlib.Nat.{min-eq_left, min_comm}
+-- fits into the piece, the end. Assumes nothing.
+use Rattle.std.proofs.Common.{◌≡◌, ℕ, suc, ◌+◌, ◌-◌, ◌*◌, ◌/◌, ◌%◌, ◌<◌, ◌≤◌, Bool, true, false, not, ◌&&◌, eqb, List, [], ◌∷◌, ◌++◌, length, take, drop, set, sym, refl, ap, ◌∙◌, append_assoc, add-zero, arith, length-set, take-append-drop, drop-drop, take-suc-set, drop-set-lt, ne_eqb, eqb-true}
 use borrow.Author.Tests.{eqb-false, not-true}
+use borrow.Rule.Slice.PartMut.{put_mid}
 use Rattle.little.specs.Parts.{put}
-use Rattle.blake3.specs.Compress.{bytes_of_words}
+use Rattle.little.proofs.Laws.{put_laws}
 use Rattle.blake3.specs.Tree.{piece}
 use Rattle.blake3.specs.Stack.{pushed, closed, root_flag, is_full, settled, pieces_done, ending}
-use Rattle.blake3.specs.Running.{most_fed, with_byte, with_bytes, fed_with, refused_finish, finished}
+use Rattle.blake3.specs.Running.{with_byte, with_bytes}
 use Rattle.blake3.specs.declared.running.Running.{Running}
-use Rattle.blake3.specs.declared.running.Fed.{Fed}
-use Rattle.blake3.specs.declared.running.Finished.{Finished}
-use Rattle.blake3.specs.declared.running.Answer.TheVariants.{Done, Refused}
-use Rattle.blake3.specs.declared.running.Reason.TheVariants.{RunningHash}
-use Rattle.blake3.proofs.Splits.{either}
 use Rattle.blake3.proofs.RunningLaws.{with_both}
 
 -- ---- a full piece
@@ -29,12 +24,12 @@ full_told fed t =
     let z = eqb-true (fed % 1024) 0 q.1 in
     (omega arith, z)
 
-pub settled_full : (fed : ℕ) (bytes s : List ℕ) {cv r : List ℕ} → is_full fed ≡ true → cv ≡ piece (fed / 1024 - 1) 0 bytes
+pub settled_full : (fed : ℕ) (bytes : List ℕ) (s : List (List ℕ)) {cv : List ℕ} {r : List (List ℕ)} → is_full fed ≡ true → cv ≡ piece (fed / 1024 - 1) 0 bytes
     → r ≡ pushed 30 0 (fed / 1024 - 1) cv s → r ≡ settled fed bytes s
 unfolding settled
 settled_full fed bytes s t ec er = rw (t, er, ec)
 
-pub settled-not : (fed : ℕ) (bytes s : List ℕ) → is_full fed ≡ false → s ≡ settled fed bytes s
+pub settled-not : (fed : ℕ) (bytes : List ℕ) (s : List (List ℕ)) → is_full fed ≡ false → s ≡ settled fed bytes s
 unfolding settled
 settled-not fed bytes s t = rw t
 
@@ -49,7 +44,7 @@ not_full fed pos =
 
 -- ---- a part that fits into the piece
 
-abbrev pub state : List ℕ → ℕ → List ℕ → Running
+abbrev state : List ℕ → ℕ → List (List ℕ) → Running
 state xs fed s = record { piece = xs; fed = fed; stack = s }
 
 put_nothing : (xs : List ℕ) (k : ℕ) → put xs k [] ≡ xs
@@ -65,11 +60,11 @@ put-one_more xs k x p lt =
     rw (e, take-suc-set xs k x lt, drop-set-lt (suc k) xs k x l, d)
     (append_assoc (take k xs) (x ∷ []) (p ++ drop (suc (length p)) (drop k xs)))
 
-state-eq : {xs xs' s s' : List ℕ} {fed fed' : ℕ} → xs ≡ xs' → fed ≡ fed' → s ≡ s' → state xs fed s ≡ state xs' fed' s'
+state-eq : {xs xs' : List ℕ} {s s' : List (List ℕ)} {fed fed' : ℕ} → xs ≡ xs' → fed ≡ fed' → s ≡ s' → state xs fed s ≡ state xs' fed' s'
 state-eq ex ef es = λ i. record { piece = ex i; fed = ef i; stack = es i }
 
 -- bytes after the first one of a part: the piece is neither empty nor full before each of them
-run : (p xs s : List ℕ) (k fed : ℕ) → length xs ≡ 1024 → 0 < k → k + length p ≤ 1024 → (0 < length p → fed % 1024 ≡ k)
+run : (p xs : List ℕ) (s : List (List ℕ)) (k fed : ℕ) → length xs ≡ 1024 → 0 < k → k + length p ≤ 1024 → (0 < length p → fed % 1024 ≡ k)
     → with_bytes (state xs fed s) p ≡ state (put xs k p) (fed + length p) s
 unfolding with_bytes with_byte
 run [] xs s k fed lx pos le at = state-eq (sym (put_nothing xs k)) (sym (add-zero fed)) refl
@@ -86,7 +81,7 @@ run (x ∷ p) xs s k fed lx pos le at =
     ∙ ih ∙ state-eq (put-one_more xs k x p lt) m refl
 
 -- a whole part, of one byte or more
-pub run_from : (p xs s : List ℕ) (fed : ℕ) → length xs ≡ 1024 → 0 < length p → fed % 1024 + length p ≤ 1024
+run_from : (p xs : List ℕ) (s : List (List ℕ)) (fed : ℕ) → length xs ≡ 1024 → 0 < length p → fed % 1024 + length p ≤ 1024
     → with_bytes (state xs fed s) p ≡ state (put xs (fed % 1024) p) (fed + length p) (settled fed xs s)
 unfolding with_bytes with_byte
 run_from [] xs s fed lx pos le = absurd (omega arith)
@@ -99,62 +94,30 @@ run_from (x ∷ p) xs s fed lx pos le =
     let m : fed + 1 + length p ≡ fed + suc (length p) = omega arith in
     ih ∙ state-eq (put-one_more xs (fed % 1024) x p lt) m refl
 
--- where both have room for a byte, so has the smaller of them
-pub some_room : (a b : ℕ) {n : ℕ} → n ≡ min a b → 0 < a → 0 < b → 0 < n
-some_room a b e pa pb = either (leb a b)
-    (λ t. rw (e ∙ min-eq_left (leb-true a b t)) pa)
-    (λ t. let lt = leb-false a b t in let le : b ≤ a = omega arith in rw (e ∙ min_comm a b ∙ min-eq_left le) pb)
+pub piece_long : (xs q ys : List ℕ) (fed : ℕ) → length xs ≡ 1024 → fed % 1024 + length q ≤ 1024 → ys ≡ q
+    → length (put_mid (fed % 1024) (fed % 1024 + length q - fed % 1024) xs ys) ≡ 1024
+piece_long xs q ys fed lx room ey =
+    let n : fed % 1024 + length q - fed % 1024 ≡ length q = omega arith in
+    rw (n, ey) (put_laws.length-put xs (fed % 1024) q (omega arith) ∙ lx)
 
--- a turn of the loop: what is left to do, done to the present record, gives the promised one
-pub fed_more : (xs s part : List ℕ) (fed at n : ℕ) (final : Running) {xs' s' : List ℕ} → length xs ≡ 1024 → 0 < n → fed % 1024 + n ≤ 1024
-    → at + n ≤ length part → s' ≡ settled fed xs s → xs' ≡ put xs (fed % 1024) (take (at + n - at) (drop at part))
-    → with_bytes (state xs fed s) (drop at part) ≡ final → with_bytes (state xs' (fed + n) s') (drop (at + n) part) ≡ final
-fed_more xs s part fed at n final {xs'} {s'} lx pos room le es ex inv =
-    let m : at + n - at ≡ n = omega arith in
-    let u : n ≤ length (drop at part) = omega (arith, length-drop at part) in
-    let p = take n (drop at part) in
-    let lp : length p ≡ n = length-take-le n (drop at part) u in
-    let cut : drop at part ≡ p ++ drop (at + n) part = sym (take-append-drop n (drop at part)) ∙ ap (λ (q : List ℕ). p ++ q) (drop-drop n at part) in
-    let one = run_from p xs s fed lx (omega arith) (omega arith) in
-    let here : state xs' (fed + n) s' ≡ with_bytes (state xs fed s) p
-    = state-eq (ex ∙ ap (λ (j : ℕ). put xs (fed % 1024) (take j (drop at part))) m) (ap (λ (j : ℕ). fed + j) (sym lp)) es ∙ sym one in
-    ap (λ (r : Running). with_bytes r (drop (at + n) part)) here
-    ∙ sym (with_both (state xs fed s) p (drop (at + n) part)) ∙ ap (λ (q : List ℕ). with_bytes (state xs fed s) q) (sym cut) ∙ inv
+-- a turn of the loop: a part of the rest, q, has gone into the settled record's piece, and what is later is to come
+pub fed_more : (r r' final : Running) (q ys later rest : List ℕ) → length r.piece ≡ 1024 → 0 < length q → r.fed % 1024 + length q ≤ 1024 → rest ≡ q ++ later
+    → (r'.piece ≡ r.piece) × (r'.fed ≡ r.fed) → r'.stack ≡ settled r.fed r.piece r.stack → ys ≡ q → with_bytes r rest ≡ final
+    → with_bytes (state (put_mid (r'.fed % 1024) (r'.fed % 1024 + length q - r'.fed % 1024) r'.piece ys) (r'.fed + length q) r'.stack) later ≡ final
+fed_more r r' final q ys later rest lx pos room cut same es ey inv =
+    let n : r'.fed % 1024 + length q - r'.fed % 1024 ≡ length q = omega arith in
+    let here : state (put_mid (r'.fed % 1024) (r'.fed % 1024 + length q - r'.fed % 1024) r'.piece ys) (r'.fed + length q) r'.stack ≡ with_bytes r q
+    = rw (n, ey, same.0, same.1, es) (sym (run_from q r.piece r.stack r.fed lx pos room)) in
+    ap (λ (s : Running). with_bytes s later) here ∙ sym (with_both r q later) ∙ ap (λ (l : List ℕ). with_bytes r l) (sym cut) ∙ inv
 
-pub fed_end : (xs s part : List ℕ) (fed at : ℕ) (final : Running) → length part ≤ at
-    → with_bytes (state xs fed s) (drop at part) ≡ final → state xs fed s ≡ final
+pub fed_end : (r final : Running) (rest : List ℕ) → length rest ≡ 0 → with_bytes r rest ≡ final → r ≡ final
 unfolding with_bytes
-fed_end xs s part fed at final le inv = ap (λ (q : List ℕ). with_bytes (state xs fed s) q) (sym (drop_of_length-le part le)) ∙ inv
+fed_end r final [] e inv = inv
+fed_end r final (x ∷ rest) e inv = absurd (omega arith)
 
--- ---- the answers
+-- ---- the finish
 
-pub room_told : (m n : ℕ) {t : Bool} → t ≡ ltb m n → t ≡ false → n ≤ m
-room_told m n told w = ltb-false m n (sym told ∙ w)
-
-pub ending-made : (fed t : ℕ) (bytes s : List ℕ) {cv r : List ℕ} {root : ℕ} → t ≡ pieces_done fed → root ≡ root_flag t
+pub ending-made : (fed t : ℕ) (bytes : List ℕ) (s : List (List ℕ)) {cv r : List ℕ} {root : ℕ} → t ≡ pieces_done fed → root ≡ root_flag t
     → cv ≡ piece t root (take (fed - t * 1024) bytes) → r ≡ closed 30 0 t cv s → r ≡ ending fed bytes s
 unfolding ending
 ending-made fed t bytes s et eo ec er = rw (er, ec, eo, et)
-
-module _ (r : Running) {t : Bool} (told : t ≡ ltb most_fed (r.fed + 0)) where
-  pub finish_refused : {f : Finished} → t ≡ true → f ≡ refused_finish → f ≡ finished r
-  unfolding finished
-  finish_refused w ef =
-      let e : ltb most_fed r.fed ≡ true = rw add-zero at (sym told ∙ w) in
-      rw (e, ef)
-
-  pub finish_done : {h w : List ℕ} → t ≡ false → h ≡ bytes_of_words w → w ≡ ending r.fed r.piece r.stack
-      → ◌≡◌ {A = Finished} (record { answer = Done; hash = h }) (finished r)
-  unfolding finished
-  finish_done w eh ew =
-      let e : ltb most_fed r.fed ≡ false = rw add-zero at (sym told ∙ w) in
-      rw (e, eh, ew)
-
-module _ (r : Running) (xs : List ℕ) {t : Bool} (told : t ≡ ltb most_fed (r.fed + length xs)) where
-  pub feed_refused : t ≡ true → ◌≡◌ {A = Fed} (record { answer = Refused RunningHash; state = r }) (fed_with r xs)
-  unfolding fed_with
-  feed_refused w = rw (← told, w)
-
-  pub feed_done : {q : Running} → t ≡ false → q ≡ with_bytes r xs → ◌≡◌ {A = Fed} (record { answer = Done; state = q }) (fed_with r xs)
-  unfolding fed_with
-  feed_done w eq = rw (← told, w, eq)

@@ -1,5 +1,6 @@
 -- What a record holds of the text fed so far, that each byte keeps it, and that the finish is then the hash. Assumes nothing.
-use Rattle.std.proofs.Common.{◌≡◌, ℕ, zero, suc, ◌+◌, ◌-◌, ◌*◌, ◌/◌, ◌%◌, ◌<◌, ◌≤◌, true, false, List, [], ◌∷◌, ◌++◌, length, take, drop, set, replicate, sym, refl, ap, ◌∙◌, append-nil, arith, length-append, length-drop, length-set, take_all, take-suc-set, le-ltb}
+use Rattle.std.proofs.Common.{◌≡◌, ℕ, zero, suc, ◌+◌, ◌-◌, ◌*◌, ◌/◌, ◌%◌, ◌<◌, ◌≤◌, true, false, List, [], ◌∷◌, ◌++◌, length, take, drop, set, sym, refl, ap, ◌∙◌, append-nil, arith, length-append, length-drop, length-set, take_all, take-suc-set, le-ltb}
+use Rattle.std.specs.Prelude.{Ok}
 use borrow.Author.Tests.{eqb-false}
 use lib.Dec.{eqb-suc-zero}
 use lib.ListN.{length-replicate}
@@ -8,18 +9,16 @@ use Rattle.blake3.specs.Tree.{piece, tree, hash}
 use Rattle.blake3.specs.Stack.{pushed, root_flag, closed, is_full, settled, pieces_done, ending}
 use Rattle.blake3.specs.Running.{most_fed, with_byte, with_bytes, fresh, finished}
 use Rattle.blake3.specs.declared.running.Running.{Running}
-use Rattle.blake3.specs.declared.running.Finished.{Finished}
-use Rattle.blake3.specs.declared.running.Answer.TheVariants.{Done}
 use Rattle.blake3.proofs.Splits.{either}
 use Rattle.blake3.proofs.FeedLaws.{full_told, settled_full, settled-not}
 use Rattle.blake3.proofs.Heights.{by_height, whole, height_tree}
-use Rattle.blake3.proofs.Waiting.{piece-eight, Waits, waits_more, waits_eq, waits_none, pushed_waits, length-pushed, closed-tree}
+use Rattle.blake3.proofs.Waiting.{Waits, waits_more, waits_eq, waits_none, pushed_waits, length-pushed, closed-tree}
 
 -- ---- a record and the text fed so far
 
 pub record Holds (r : Running) (xs : List ℕ) : Type 0 where
   pub full_piece : length r.piece ≡ 1024
-  pub full_stack : length r.stack ≡ 240
+  pub full_stack : length r.stack ≡ 30
   pub size : length xs ≡ r.fed
   pub last : take (r.fed - pieces_done r.fed * 1024) r.piece ≡ drop (pieces_done r.fed * 1024) xs
   pub before : Waits 30 0 (pieces_done r.fed) (pieces_done r.fed) r.stack xs
@@ -27,10 +26,10 @@ pub record Holds (r : Running) (xs : List ℕ) : Type 0 where
 pub holds_fresh : Holds fresh []
 holds_fresh = record {
   full_piece = length-replicate {A = ℕ} 1024 0;
-  full_stack = length-replicate {A = ℕ} 240 0;
+  full_stack = refl;
   size = refl;
   last = refl;
-  before = waits_none 30 0 (replicate 240 0) [];
+  before = waits_none 30 0 fresh.stack [];
 }
 
 -- where the piece has room, the next byte goes into it
@@ -55,7 +54,7 @@ byte_in r xs x t w =
     let a = length-append xs (x ∷ []) in
     record {
       full_piece = length-set r.piece (r.fed % 1024) x ∙ lp;
-      full_stack = ap (λ (s : List ℕ). length s) (sym (settled-not r.fed r.piece r.stack t)) ∙ w.full_stack;
+      full_stack = ap (λ (s : List (List ℕ)). length s) (sym (settled-not r.fed r.piece r.stack t)) ∙ w.full_stack;
       size = omega arith;
       last = ap (λ (m : ℕ). take m (set r.piece (r.fed % 1024) x)) e₂ ∙ take-suc-set r.piece (r.fed % 1024) x lt
           ∙ ap (λ (l : List ℕ). l ++ (x ∷ [])) (ap (λ (m : ℕ). take m r.piece) (sym e₁) ∙ w.last)
@@ -85,17 +84,16 @@ byte_over r xs x t small w =
     = sym (take_all 1024 r.piece all) ∙ ap (λ (m : ℕ). take m r.piece) (sym e₁) ∙ w.last
     ∙ ap (λ (m : ℕ). drop (m * 1024) xs) e₀ ∙ sym (take_all 1024 (drop ((r.fed / 1024 - 1) * 1024) xs) cut) in
     let cv = piece (r.fed / 1024 - 1) 0 r.piece in
-    let lc = piece-eight (r.fed / 1024 - 1) 0 r.piece in
     let es : pushed 30 0 (r.fed / 1024 - 1) cv r.stack ≡ settled r.fed r.piece r.stack = settled_full r.fed r.piece r.stack t refl refl in
     let w₀ : Waits 30 0 (r.fed / 1024 - 1) (r.fed / 1024 - 1) r.stack xs = waits_eq 30 0 r.stack xs e₀ e₀ w.before in
     let w₁ : Waits 30 0 (r.fed / 1024 - 1 + 1) (r.fed / 1024 - 1 + 1) (pushed 30 0 (r.fed / 1024 - 1) cv r.stack) xs
-    = pushed_waits 30 0 (r.fed / 1024 - 1) (r.fed / 1024 - 1) r.stack xs cv refl ls lc (omega arith) (omega arith) (ap (λ (l : List ℕ). piece (r.fed / 1024 - 1) 0 l) same) w₀ in
+    = pushed_waits 30 0 (r.fed / 1024 - 1) (r.fed / 1024 - 1) r.stack xs cv refl ls (omega arith) (omega arith) (ap (λ (l : List ℕ). piece (r.fed / 1024 - 1) 0 l) same) w₀ in
     let le : (r.fed / 1024 - 1 + 1) * 1024 ≤ length xs = omega arith in
     let w₂ = waits_more 30 0 (r.fed / 1024 - 1 + 1) (r.fed / 1024 - 1 + 1) (pushed 30 0 (r.fed / 1024 - 1) cv r.stack) xs (x ∷ []) le w₁ in
     let first : take (r.fed % 1024) r.piece ≡ [] = ap (λ (m : ℕ). take m r.piece) f.1 in
     record {
       full_piece = length-set r.piece (r.fed % 1024) x ∙ lp;
-      full_stack = ap (λ (s : List ℕ). length s) (sym es) ∙ length-pushed 30 0 (r.fed / 1024 - 1) r.stack cv refl ls lc;
+      full_stack = ap (λ (s : List (List ℕ)). length s) (sym es) ∙ length-pushed 30 0 (r.fed / 1024 - 1) r.stack cv ∙ ls;
       size = omega arith;
       last = ap (λ (m : ℕ). take m (set r.piece (r.fed % 1024) x)) e₂ ∙ take-suc-set r.piece (r.fed % 1024) x lt
           ∙ ap (λ (l : List ℕ). l ++ (x ∷ [])) first ∙ sym (ap (λ (m : ℕ). drop m (xs ++ (x ∷ []))) e₄ ∙ drop-append_seam xs (x ∷ []));
@@ -117,7 +115,7 @@ bytes_hold (x ∷ p) r xs le w =
 
 -- ---- the finish
 
-pub finish_holds : (r : Running) (xs : List ℕ) → length xs ≤ most_fed → Holds r xs → ◌≡◌ {A = Finished} (finished r) (record { answer = Done; hash = hash xs })
+pub finish_holds : (r : Running) (xs : List ℕ) → length xs ≤ most_fed → Holds r xs → finished r ≡ Ok (hash xs)
 unfolding finished ending hash by_height
 finish_holds r xs le w =
     let z = w.size in

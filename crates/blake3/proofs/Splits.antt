@@ -5,7 +5,7 @@ use native.Mathlib.Nat.{two-pow-succ}
 use borrow.Author.Tests.{lt-leb}
 use Rattle.little.proofs.Laws.{part_laws}
 use Rattle.blake3.specs.Compress.{compressed}
-use Rattle.blake3.specs.Tree.{block_of, block_words, start_flag, chain, piece, parent, doubled, left_pieces, Largest, SplitsAtLargest, tree, DepthEnough, tree_of}
+use Rattle.blake3.specs.Tree.{block_words, start_flag, chain, piece, parent, doubled, left_pieces, Largest, SplitsAtLargest, tree, DepthEnough, tree_of}
 
 -- the two ways that a test can go
 pub either : {C : Type 0} (t : Bool) → (t ≡ true → C) → (t ≡ false → C) → C
@@ -142,28 +142,30 @@ tree_split (suc d) i root p xs lt le ep el er ex =
     rw (ex, el ∙ depth_enough _ d i 0 (take (p * 1024) xs) l₁ l₂, er ∙ depth_enough _ d (i + p) 0 (drop (p * 1024) xs) r₁ r₂, ep) (tree_down d i root xs lt)
 
 -- a turn of the loop over blocks: b is the block's words, f the flag, cv the chaining value before and r after
-pub chain_more : (i k at : ℕ) (xs : List ℕ) {cv b r : List ℕ} {f : ℕ} → at ≡ k * 64
-    → cv ≡ chain i k xs → b ≡ block_words (take (at + 64 - at) (drop at xs)) → f ≡ start_flag k → r ≡ compressed cv b i 64 f → r ≡ chain i (k + 1) xs
+pub chain_more : (i k : ℕ) (xs : List ℕ) {cv b r : List ℕ} {f : ℕ} → cv ≡ chain i k xs
+    → b ≡ block_words (take (k * 64 + 64 - k * 64) (drop (k * 64) xs)) → f ≡ start_flag k → r ≡ compressed cv b i 64 f → r ≡ chain i (k + 1) xs
 unfolding chain
-chain_more i k at xs ea e₁ e₂ e₃ e₄ =
-    let n : at + 64 - at ≡ 64 = omega arith in
-    let e₂' = rw (n, ea) at e₂ in
+chain_more i k xs e₁ e₂ e₃ e₄ =
+    let n : k * 64 + 64 - k * 64 ≡ 64 = omega arith in
+    let e₂' = rw n at e₂ in
     rw (add-one, e₄, e₁, e₂', e₃)
 
 -- the last block of a piece
-pub piece-made : (i root k at : ℕ) (xs : List ℕ) {cv b r : List ℕ} {f : ℕ} → at ≡ k * 64 → at ≤ length xs - 1 → length xs - at ≤ 64
-    → cv ≡ chain i k xs → b ≡ block_words (take (length xs - at) (drop at xs)) → f ≡ start_flag k → r ≡ compressed cv b i (length xs - at) (f + 2 + root)
-    → r ≡ piece i root xs
+pub piece-made : (i root k : ℕ) (xs : List ℕ) {cv b r : List ℕ} {f : ℕ} → k ≡ (length xs - 1) / 64
+    → cv ≡ chain i k xs → b ≡ block_words (take (length xs - k * 64) (drop (k * 64) xs)) → f ≡ start_flag k
+    → r ≡ compressed cv b i (length (take (length xs - k * 64) (drop (k * 64) xs))) (f + 2 + root) → r ≡ piece i root xs
 unfolding piece
-piece-made i root k at xs ea h t e₁ e₂ e₃ e₄ =
-    let e : k ≡ (length xs - 1) / 64 = omega arith in
-    let s : length (drop at xs) ≤ 64 = omega (arith, length-drop at xs) in
-    let c : take (length xs - at) (drop at xs) ≡ block_of xs k = part_laws.part-rest xs at ∙ sym (take_all 64 (drop at xs) s) ∙ ap (λ (n : ℕ). take 64 (drop n xs)) ea in
-    rw (e₄, e₁, e₂, c, e₃, ea) (ap (λ (k : ℕ). compressed (chain i k xs) (block_words (block_of xs k)) i (length xs - k * 64) (start_flag k + 2 + root)) e)
+piece-made i root k xs ek e₁ e₂ e₃ e₄ =
+    let s : length (drop (k * 64) xs) ≤ 64 = omega (arith, length-drop (k * 64) xs) in
+    let p : take (length xs - k * 64) (drop (k * 64) xs) ≡ drop (k * 64) xs = part_laws.part-rest xs (k * 64) in
+    rw (e₄, e₁, e₂, e₃, p, length-drop (k * 64) xs, ← take_all 64 (drop (k * 64) xs) s, ek)
 
--- what the loop over powers of two leaves
 pub left-made : (n p : ℕ) → 1024 < n → Largest n p → p ≡ left_pieces n
 left-made n p lt l = one_largest n p (left_pieces n) l (splits_at_largest n lt)
+
+-- the largest power of two of pieces that leave a byte on the right
+pub left_power : (n e : ℕ) {p : ℕ} → 1024 < n → 2 ^ e ≤ (n - 1) / 1024 → (n - 1) / 1024 < 2 * 2 ^ e → p ≡ 2 ^ e → p ≡ left_pieces n
+left_power n e lt le more ep = left-made n _ lt record { exponent = e; power = ep; leaves = rw ep (omega arith); no_more = rw ep (omega arith) }
 
 pub left_parts : (xs : List ℕ) (p : ℕ) → 1024 < length xs → p ≡ left_pieces (length xs) → Parts xs p
 left_parts xs p lt e = rw e (parts xs lt)

@@ -1,39 +1,23 @@
 -- What the stack of a running hash holds of a text: its first pieces as whole trees, one for each binary digit of their count;
 -- that a push keeps it so, and that closing such a stack gives the tree. Assumes nothing.
-use Rattle.std.proofs.Common.{◌≡◌, ℕ, zero, suc, ◌+◌, ◌-◌, ◌*◌, ◌/◌, ◌%◌, ◌^◌, ◌<◌, ◌≤◌, eqb, List, ◌++◌, length, drop, sym, refl, ap, ◌∙◌, inl, arith, length-drop, eqb-true}
+use Rattle.std.proofs.Common.{◌≡◌, ℕ, zero, suc, ◌+◌, ◌-◌, ◌*◌, ◌/◌, ◌%◌, ◌^◌, ◌<◌, ◌≤◌, ◌≢◌, eqb, List, [], ◌++◌, length, set, drop, refl, ap, ◌∙◌, arith, length-drop, length-set, eqb-true}
+use Rattle.std.proofs.lemmas.List.{get_or-set_same, get_or-set_other}
 use borrow.Author.Tests.{eqb-false}
-use Rattle.little.specs.Parts.{part, put}
-use Rattle.little.proofs.Laws.{put_laws}
-use Rattle.blake3.specs.Compress.{compressed, folded}
-use Rattle.blake3.specs.Tree.{piece, parent}
-use Rattle.blake3.specs.Stack.{slot, pushed, root_flag, joined_at, closed}
+use Rattle.blake3.specs.Tree.{parent}
+use Rattle.blake3.specs.Stack.{slot, pushed, root_flag, joined_to, closed}
 use Rattle.blake3.proofs.Splits.{either, pow-suc}
 use Rattle.blake3.proofs.Heights.{by_height, whole, height_same, height_join, whole_join, whole_more}
-
--- ---- chaining values have eight words
-
-eight-words : (cv m : List ℕ) (i n flags : ℕ) → length (compressed cv m i n flags) ≡ 8
-unfolding compressed folded
-eight-words cv m i n flags = refl
-
-pub piece-eight : (i root : ℕ) (xs : List ℕ) → length (piece i root xs) ≡ 8
-unfolding piece
-piece-eight i root xs = eight-words _ _ i _ _
-
-parent-eight : (root : ℕ) (l r : List ℕ) → length (parent root l r) ≡ 8
-unfolding parent
-parent-eight root l r = eight-words _ _ 0 64 _
 
 -- ---- what a stack holds
 
 -- The first i pieces of xs as whole trees, one for each binary digit of t that is 1, t * 2 ^ h being i: the digit of 2 ^ h
 -- pieces has its tree at height h, and stands for the last of them. f is how many digits there may be
-unfoldable pub Waits : ℕ → ℕ → ℕ → ℕ → List ℕ → List ℕ → Type 0
+unfoldable pub Waits : ℕ → ℕ → ℕ → ℕ → List (List ℕ) → List ℕ → Type 0
 Waits zero h t i s xs = (t ≡ 0) × (i ≡ 0)
 Waits (suc f) h t i s xs =
     (t % 2 ≡ 1 → (2 ^ h ≤ i) × (slot h s ≡ whole h (i - 2 ^ h) xs)) × Waits f (suc h) (t / 2) (i - t % 2 * 2 ^ h) s xs
 
-pub waits_more : (f h t i : ℕ) (s xs ys : List ℕ) → i * 1024 ≤ length xs → Waits f h t i s xs → Waits f h t i s (xs ++ ys)
+pub waits_more : (f h t i : ℕ) (s : List (List ℕ)) (xs ys : List ℕ) → i * 1024 ≤ length xs → Waits f h t i s xs → Waits f h t i s (xs ++ ys)
 unfolding Waits
 waits_more zero h t i s xs ys le r = r
 waits_more (suc f) h t i s xs ys le r = (
@@ -41,56 +25,44 @@ waits_more (suc f) h t i s xs ys le r = (
   waits_more f (suc h) (t / 2) (i - t % 2 * 2 ^ h) s xs ys (omega arith) r.1,
 )
 
-pub waits_eq : (f h : ℕ) {t t' i i' : ℕ} (s xs : List ℕ) → t ≡ t' → i ≡ i' → Waits f h t i s xs → Waits f h t' i' s xs
+pub waits_eq : (f h : ℕ) {t t' i i' : ℕ} (s : List (List ℕ)) (xs : List ℕ) → t ≡ t' → i ≡ i' → Waits f h t i s xs → Waits f h t' i' s xs
 waits_eq f h s xs et ei r = rw (← et, ← ei) r
 
-pub waits_none : (f h : ℕ) (s xs : List ℕ) → Waits f h 0 0 s xs
+pub waits_none : (f h : ℕ) (s : List (List ℕ)) (xs : List ℕ) → Waits f h 0 0 s xs
 unfolding Waits
 waits_none zero h s xs = (refl, refl)
 waits_none (suc f) h s xs = let e : 0 ≡ 0 - 0 * 2 ^ h = omega arith in ((λ o. absurd (omega arith)), waits_eq f (suc h) s xs refl e (waits_none f (suc h) s xs))
 
 -- ---- a chaining value put into the stack
 
-module _ (h : ℕ) (s cv : List ℕ) (eight : length cv ≡ 8) (full : length s ≡ 240) (low : h < 30) where
-  fits : h * 8 + length cv ≤ length s
-  fits = omega arith
-
-  slot_same : slot h (put s (h * 8) cv) ≡ cv
-  unfolding slot
-  slot_same = ap (λ (n : ℕ). part (put s (h * 8) cv) (h * 8) n) (sym eight) ∙ put_laws.part-put s (h * 8) cv fits
-
-  slot-other : (k : ℕ) → h < k → k < 30 → slot k (put s (h * 8) cv) ≡ slot k s
-  unfolding slot
-  slot-other k lt top = put_laws.part-put_apart s (h * 8) cv fits (k * 8) 8 (omega arith) (inl (omega arith))
-
-  waits_stored : (f k t i : ℕ) (xs : List ℕ) → h < k → f + k ≤ 30 → Waits f k t i s xs → Waits f k t i (put s (h * 8) cv) xs
-  unfolding Waits
-  waits_stored zero k t i xs lt top r = r
-  waits_stored (suc f) k t i xs lt top r =
-      ((λ o. ((r.0 o).0, slot-other k lt (omega arith) ∙ (r.0 o).1)), waits_stored f (suc k) (t / 2) (i - t % 2 * 2 ^ k) xs (omega arith) (omega arith) r.1)
+waits_stored : (h : ℕ) (s : List (List ℕ)) (cv : List ℕ) (f k t i : ℕ) (xs : List ℕ) → h < k → Waits f k t i s xs → Waits f k t i (set s h cv) xs
+unfolding Waits
+waits_stored h s cv zero k t i xs lt r = r
+waits_stored h s cv (suc f) k t i xs lt r =
+    let other : k ≢ h = λ e. absurd (omega arith) in
+    ((λ o. ((r.0 o).0, get_or-set_other s h k cv [] other ∙ (r.0 o).1)), waits_stored h s cv f (suc k) (t / 2) (i - t % 2 * 2 ^ k) xs (omega arith) r.1)
 
 digit : (d n p : ℕ) → d ≡ n → d * p ≡ n * p
 digit d n p e = ap (λ (x : ℕ). x * p) e
 
 -- ---- a whole tree pushed
 
-push_stored : (f h t i : ℕ) (s xs cv : List ℕ) → suc f + h ≡ 30 → length s ≡ 240 → length cv ≡ 8 → t % 2 ≡ 0 → cv ≡ whole h i xs
-    → Waits (suc f) h t i s xs → Waits (suc f) h (t + 1) (i + 2 ^ h) (put s (h * 8) cv) xs
+push_stored : (f h t i : ℕ) (s : List (List ℕ)) (xs cv : List ℕ) → h < length s → t % 2 ≡ 0 → cv ≡ whole h i xs
+    → Waits (suc f) h t i s xs → Waits (suc f) h (t + 1) (i + 2 ^ h) (set s h cv) xs
 unfolding Waits
-push_stored f h t i s xs cv ef ls lc e ecv r =
-    let low : h < 30 = omega arith in
+push_stored f h t i s xs cv low e ecv r =
     let n : i ≡ i + 2 ^ h - 2 ^ h = omega arith in
     let o : (t + 1) % 2 ≡ 1 = omega arith in
     let et : t / 2 ≡ (t + 1) / 2 = omega arith in
     let d₀ = digit (t % 2) 0 (2 ^ h) e in
     let d₁ = digit ((t + 1) % 2) 1 (2 ^ h) o in
     let ei : i - t % 2 * 2 ^ h ≡ i + 2 ^ h - (t + 1) % 2 * 2 ^ h = omega arith in (
-      (λ _. (omega arith, slot_same h s cv lc ls low ∙ ecv ∙ ap (λ (n : ℕ). whole h n xs) n)),
-      waits_eq f (suc h) (put s (h * 8) cv) xs et ei (waits_stored h s cv lc ls low f (suc h) (t / 2) (i - t % 2 * 2 ^ h) xs (omega arith) (omega arith) r.1),
+      (λ _. (omega arith, get_or-set_same s h cv [] low ∙ ecv ∙ ap (λ (n : ℕ). whole h n xs) n)),
+      waits_eq f (suc h) (set s h cv) xs et ei (waits_stored h s cv f (suc h) (t / 2) (i - t % 2 * 2 ^ h) xs (omega arith) r.1),
     )
 
 -- s' is the stack after the push one level up
-push_carried : (f h t i : ℕ) (s s' xs : List ℕ) → t % 2 ≡ 1 → 2 ^ h ≤ i
+push_carried : (f h t i : ℕ) (s s' : List (List ℕ)) (xs : List ℕ) → t % 2 ≡ 1 → 2 ^ h ≤ i
     → Waits f (suc h) (t / 2 + 1) (i - 2 ^ h + 2 ^ suc h) s' xs → Waits (suc f) h (t + 1) (i + 2 ^ h) s' xs
 unfolding Waits
 push_carried f h t i s s' xs o g up =
@@ -102,7 +74,7 @@ push_carried f h t i s s' xs o g up =
     ((λ o'. absurd (omega arith)), waits_eq f (suc h) s' xs et ei up)
 
 -- what a digit that is 1 says, and what is above it
-odd_waits : (f h t i : ℕ) (s xs : List ℕ) → t % 2 ≡ 1 → Waits (suc f) h t i s xs
+odd_waits : (f h t i : ℕ) (s : List (List ℕ)) (xs : List ℕ) → t % 2 ≡ 1 → Waits (suc f) h t i s xs
     → (2 ^ h ≤ i) × (slot h s ≡ whole h (i - 2 ^ h) xs) × Waits f (suc h) (t / 2) (i - 2 ^ h) s xs
 unfolding Waits
 odd_waits f h t i s xs o r =
@@ -110,7 +82,7 @@ odd_waits f h t i s xs o r =
     let e : i - t % 2 * 2 ^ h ≡ i - 2 ^ h = omega arith in
     ((r.0 o).0, (r.0 o).1, waits_eq f (suc h) s xs refl e r.1)
 
-even_waits : (f h t i : ℕ) (s xs : List ℕ) → t % 2 ≡ 0 → Waits (suc f) h t i s xs → Waits f (suc h) (t / 2) i s xs
+even_waits : (f h t i : ℕ) (s : List (List ℕ)) (xs : List ℕ) → t % 2 ≡ 0 → Waits (suc f) h t i s xs → Waits f (suc h) (t / 2) i s xs
 unfolding Waits
 even_waits f h t i s xs z r =
     let d = digit (t % 2) 0 (2 ^ h) z in
@@ -118,7 +90,7 @@ even_waits f h t i s xs z r =
     waits_eq f (suc h) s xs refl e r.1
 
 -- the tree at height h, and the one that is pushed after it
-carried : (h i : ℕ) (s xs cv : List ℕ) → 2 ^ h ≤ i → (i + 2 ^ h) * 1024 ≤ length xs → slot h s ≡ whole h (i - 2 ^ h) xs → cv ≡ whole h i xs
+carried : (h i : ℕ) (s : List (List ℕ)) (xs cv : List ℕ) → 2 ^ h ≤ i → (i + 2 ^ h) * 1024 ≤ length xs → slot h s ≡ whole h (i - 2 ^ h) xs → cv ≡ whole h i xs
     → parent 0 (slot h s) cv ≡ whole (suc h) (i - 2 ^ h) xs
 carried h i s xs cv g le el ec =
     let p = pow-suc h in
@@ -127,13 +99,13 @@ carried h i s xs cv g le el ec =
     ap (λ (a : List ℕ). parent 0 a cv) el ∙ ap (λ (a : List ℕ). parent 0 (whole h (i - 2 ^ h) xs) a) (ec ∙ ap (λ (n : ℕ). whole h n xs) n)
     ∙ whole_join h (i - 2 ^ h) xs u
 
-pub pushed_waits : (f h t i : ℕ) (s xs cv : List ℕ) → f + h ≡ 30 → length s ≡ 240 → length cv ≡ 8 → t + 1 < 2 ^ f → (i + 2 ^ h) * 1024 ≤ length xs
+pub pushed_waits : (f h t i : ℕ) (s : List (List ℕ)) (xs cv : List ℕ) → f + h ≡ 30 → length s ≡ 30 → t + 1 < 2 ^ f → (i + 2 ^ h) * 1024 ≤ length xs
     → cv ≡ whole h i xs → Waits f h t i s xs → Waits f h (t + 1) (i + 2 ^ h) (pushed f h t cv s) xs
 unfolding pushed
-pushed_waits zero h t i s xs cv ef ls lc lt le ec r = absurd (omega arith)
-pushed_waits (suc f) h t i s xs cv ef ls lc lt le ec r =
+pushed_waits zero h t i s xs cv ef ls lt le ec r = absurd (omega arith)
+pushed_waits (suc f) h t i s xs cv ef ls lt le ec r =
     either (eqb (t % 2) 0)
-    (λ b. rw b (push_stored f h t i s xs cv ef ls lc (eqb-true (t % 2) 0 b) ec r))
+    (λ b. rw b (push_stored f h t i s xs cv (omega arith) (eqb-true (t % 2) 0 b) ec r))
     (λ b.
     let n = eqb-false (t % 2) 0 b in
     let o : t % 2 ≡ 1 = omega arith in
@@ -144,17 +116,15 @@ pushed_waits (suc f) h t i s xs cv ef ls lc lt le ec r =
     let e : f + suc h ≡ 30 = omega arith in
     let u : (i - 2 ^ h + 2 ^ suc h) * 1024 ≤ length xs = omega arith in
     rw b (push_carried f h t i s (pushed f (suc h) (t / 2) (parent 0 (slot h s) cv) s) xs o q.0
-    (pushed_waits f (suc h) (t / 2) (i - 2 ^ h) s xs (parent 0 (slot h s) cv) e ls (parent-eight 0 (slot h s) cv) (omega arith) u (carried h i s xs cv q.0 le q.1 ec) q.2)))
+    (pushed_waits f (suc h) (t / 2) (i - 2 ^ h) s xs (parent 0 (slot h s) cv) e ls (omega arith) u (carried h i s xs cv q.0 le q.1 ec) q.2)))
 
-pub length-pushed : (f h t : ℕ) (s cv : List ℕ) → f + h ≡ 30 → length s ≡ 240 → length cv ≡ 8 → length (pushed f h t cv s) ≡ 240
+pub length-pushed : (f h t : ℕ) (s : List (List ℕ)) (cv : List ℕ) → length (pushed f h t cv s) ≡ length s
 unfolding pushed
-length-pushed zero h t s cv ef ls lc = ls
-length-pushed (suc f) h t s cv ef ls lc =
-    let fits : h * 8 + length cv ≤ length s = omega arith in
-    let e : f + suc h ≡ 30 = omega arith in
+length-pushed zero h t s cv = refl
+length-pushed (suc f) h t s cv =
     either (eqb (t % 2) 0)
-    (λ b. rw b (put_laws.length-put s (h * 8) cv fits ∙ ls))
-    (λ b. rw b (length-pushed f (suc h) (t / 2) s (parent 0 (slot h s) cv) e ls (parent-eight 0 (slot h s) cv)))
+    (λ b. rw b (length-set s h cv))
+    (λ b. rw b (length-pushed f (suc h) (t / 2) s (parent 0 (slot h s) cv)))
 
 -- ---- the end
 
@@ -168,9 +138,9 @@ root_odd zero o = absurd (omega arith)
 root_odd (suc t) o = refl
 
 -- cv is what the pieces from i on give, at most 2 ^ h of them, and t trees of 2 ^ h pieces stand before it
-pub closed-tree : (f h t i : ℕ) (s xs cv : List ℕ) → f + h ≡ 30 → (0 < t → i * 1024 < length xs) → length xs ≤ (i + 2 ^ h) * 1024
+pub closed-tree : (f h t i : ℕ) (s : List (List ℕ)) (xs cv : List ℕ) → f + h ≡ 30 → (0 < t → i * 1024 < length xs) → length xs ≤ (i + 2 ^ h) * 1024
     → cv ≡ by_height h i (root_flag t) (drop (i * 1024) xs) → Waits f h t i s xs → closed f h t cv s ≡ by_height 30 0 8 xs
-unfolding closed Waits joined_at
+unfolding closed Waits joined_to
 closed-tree zero h t i s xs cv ef lt le ec r =
     let e : h ≡ 30 = omega arith in
     ec ∙ rw (r.0, r.1, e)

@@ -1,5 +1,4 @@
 -- The definitions that the contracts cite, from the words up, and what the floors above may rely on (Laws).
-pub mod Types
 pub mod Compress
 pub mod Tree
 pub mod Stack

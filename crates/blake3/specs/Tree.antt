@@ -2,6 +2,8 @@
 -- the statements of two laws.
 use Rattle.std.specs.Prelude.{◌≡◌, ℕ, zero, suc, ◌+◌, ◌-◌, ◌*◌, ◌/◌, ◌^◌, ◌<◌, ◌≤◌, cond, List, ◌++◌, length, take, drop, nat_le, nat_lt}
 use Rattle.little.specs.Parts.{part}
+use Rattle.blake3.specs.declared.tree.Extent.{Extent}
+use Rattle.blake3.specs.declared.tree.Extent.TheVariants.{Whole, Part}
 use Rattle.blake3.specs.Compress.{compressed, start_value, words_from, bytes_of_words}
 
 -- the four flags
@@ -16,6 +18,11 @@ flag_parent = 4
 
 abbrev pub flag_root : ℕ
 flag_root = 8
+
+-- the flag root for the whole text, and none for a part of it
+abbrev pub flag_of : Extent → ℕ
+flag_of Whole = flag_root
+flag_of Part = 0
 
 -- the bytes of a block, and of a piece
 abbrev pub block_length : ℕ

@@ -14,11 +14,11 @@ ghost use Rattle.std.specs.Prelude.{◌≡◌};
 ghost use Rattle.blake3.specs.Tree as spec;
 
 pub use in_place::{feed_in_place, finish_in_place, hash_two_in_place};
-pub use running::{Answer, Fed, Finished, Reason, Running};
+pub use running::{Reason, Running};
 
 // The hash of a text of any length.
 pub fn hash(input: &[u8]) -> [u8; 32]
     ensures { result ≡ spec.hash input.now }
 {
-    block::bytes_of(tree::tree(input, 0, tree::ROOT))
+    block::bytes_of(tree::tree(input, 0, tree::Extent::Whole))
 }

@@ -1,15 +1,11 @@
 // The running hash by value: a record that is fed part by part, and that ends with the hash of everything fed.
-ghost use Rattle.std.specs.Prelude.{◌≡◌, ◌+◌, ◌<◌, ◌≤◌, length, nat_lt};
-ghost use Rattle.little.specs.Parts.{put};
+ghost use Rattle.std.specs.Prelude.{◌≡◌, ◌+◌, ◌≤◌, length};
 ghost use Rattle.blake3.specs.Running as spec;
 ghost use Rattle.blake3.specs.Stack as stackSpec;
-ghost use Rattle.blake3.specs.Tree.{piece_length};
-ghost use Rattle.blake3.specs.Types.{eight};
 
 use crate::block::bytes_of;
-use crate::stack::{STACK_WORDS, close, push, root_flag};
-use crate::tree::{PIECE_LENGTH, piece};
-use crate::words::Eight;
+use crate::stack::{HEIGHTS, close, extent, push};
+use crate::tree::{Extent, PIECE_LENGTH, piece};
 
 // The most bytes that may be fed.
 const MOST_FED: u64 = 1 << 40;
@@ -18,16 +14,9 @@ const MOST_FED: u64 = 1 << 40;
 const PIECE: u64 = PIECE_LENGTH as u64;
 
 // Why a record or a part is refused; specs/Running.antt has document 01's number.
-#[derive(Clone, Copy)]
+#[derive(Clone, Copy, PartialEq, Eq, Debug)]
 pub enum Reason {
     RunningHash,
-}
-
-// What a call of the running hash answers.
-#[derive(Clone, Copy)]
-pub enum Answer {
-    Done,
-    Refused(Reason),
 }
 
 // The piece that is being filled, how many bytes have been fed, and the trees that wait for their right neighbour. The count
@@ -36,80 +25,24 @@ pub enum Answer {
 pub struct Running {
     pub piece: [u8; PIECE_LENGTH],
     pub fed: u64,
-    pub stack: [u32; STACK_WORDS],
+    pub stack: [[u32; 8]; HEIGHTS],
 }
 
-// What a feed gives: the answer, and the record beside it.
-#[derive(Clone, Copy)]
-pub struct Fed {
-    pub answer: Answer,
-    pub state: Running,
-}
-
-// The hash, or zeros beside a refusal.
-#[derive(Clone, Copy)]
-pub struct Finished {
-    pub answer: Answer,
-    pub hash: [u8; 32],
-}
-
-// Puts a full piece into the stack, so that the next byte finds room.
-fn settle(bytes: &[u8], fed: u64, stack: &mut [u32])
-    requires { (fed < spec.most_fed) × (length stack.old ≡ stackSpec.stack_words) }
-    ensures { stack.new ≡ stackSpec.settled fed bytes.now stack.old }
+// Refuses where the bytes fed so far and more of them are more than may be fed.
+pub(crate) fn check_room(fed: u64, more: usize) -> Result<(), Reason>
+    ensures { result ≡ spec.room_for (fed + more) }
 {
-    if (fed != 0) & (fed % PIECE == 0) {
-        let t = fed / PIECE - 1;
-        let cv = piece(bytes, t, 0);
-        push(stack, t, cv);
+    if MOST_FED < fed.saturating_add(more as u64) {
+        return Err(Reason::RunningHash);
     }
-}
-
-// Copies a part over as many bytes, from a place on.
-fn put_part(bytes: &mut [u8], at: usize, part: &[u8])
-    requires { at + length part.now ≤ length bytes.old }
-    ensures { bytes.new ≡ put bytes.old at part.now }
-{
-    let end = at + part.len();
-    little::copy(part, &mut bytes[at..end]);
-}
-
-// Whether the bytes fed so far and more of them are more than may be fed.
-pub(crate) fn too_many(fed: u64, more: usize) -> bool
-    ensures { result ≡ nat_lt spec.most_fed (fed + more) }
-{
-    if MOST_FED < fed {
-        return true;
-    }
-    MOST_FED - fed < (more as u64)
-}
-
-// What a refused finish gives.
-pub(crate) fn refused_finish() -> Finished
-    ensures { result ≡ spec.refused_finish }
-{
-    Finished {
-        answer: Answer::Refused(Reason::RunningHash),
-        hash: [0u8; 32],
-    }
+    Ok(())
 }
 
 // How many pieces have gone into the stack: all but the last, which stays out even when it is full.
 fn pieces_done(fed: u64) -> u64
     ensures { result ≡ stackSpec.pieces_done fed }
 {
-    if fed == 0 { 0 } else { (fed - 1) / PIECE }
-}
-
-// The eight words of the root: the last piece, joined to all that waits on its left.
-fn ending(bytes: &[u8], fed: u64, stack: &[u32]) -> Eight
-    requires { (length bytes.now ≡ piece_length) × (length stack.now ≡ stackSpec.stack_words) }
-    ensures { eight result ≡ stackSpec.ending fed bytes.now stack.now }
-{
-    let t = pieces_done(fed);
-    let have = (fed - t * PIECE) as usize;
-    let cv = piece(&bytes[..have], t, root_flag(t));
-    close(stack, t, cv)
+    fed.saturating_sub(1) / PIECE
 }
 
 impl Running {
@@ -117,65 +50,75 @@ impl Running {
     pub fn new() -> Running
         ensures { result ≡ spec.fresh }
     {
-        let piece = [0u8; PIECE_LENGTH];
-        let stack = [0u32; STACK_WORDS];
         Running {
-            piece,
+            piece: [0; PIECE_LENGTH],
             fed: 0,
-            stack,
+            stack: [[0; 8]; HEIGHTS],
         }
     }
 
-    // The record after one more part: each pass of the loop puts into the piece as much of the part as there is room for.
+    // Whether the piece is full and waits for more.
+    fn is_full(&self) -> bool
+        ensures { result ≡ stackSpec.is_full self.now.fed }
+    {
+        self.fed != 0 && self.fed % PIECE == 0
+    }
+
+    // Puts a full piece into the stack, so that the next byte finds room.
+    fn settle(&mut self)
+        ensures rest { (self.new.piece ≡ self.old.piece) × (self.new.fed ≡ self.old.fed) }
+        ensures stack { self.new.stack ≡ stackSpec.settled self.old.fed self.old.piece self.old.stack }
+    {
+        if self.is_full() {
+            let t = self.fed / PIECE - 1;
+            push(&mut self.stack, t, piece(&self.piece, t, Extent::Part));
+        }
+    }
+
+    // The record after one more part: each pass of the loop puts into the piece as much of the part as there is room for. The
+    // part is cut where the piece is full, so no fixed length cuts it.
     fn with_part(self, part: &[u8]) -> Running
         requires { self.fed + length part.now ≤ spec.most_fed }
         ensures { result ≡ spec.with_bytes self part.now }
     {
-        let mut piece = self.piece;
-        let mut fed = self.fed;
-        let mut stack = self.stack;
-        let mut at: usize = 0;
-        while 0 < part.len() - at {
-            settle(&piece, fed, &mut stack);
-            let used = (fed % PIECE) as usize;
-            let n = little::least(PIECE_LENGTH - used, part.len() - at);
-            put_part(&mut piece, used, &part[at..at + n]);
-            fed += n as u64;
-            at += n;
+        let mut state = self;
+        let mut rest = part;
+        while !rest.is_empty() {
+            state.settle();
+            let used = (state.fed % PIECE) as usize;
+            let (now, later) = rest.split_at(rest.len().min(PIECE_LENGTH - used));
+            state.piece[used..used + now.len()].copy_from_slice(now);
+            state.fed += now.len() as u64;
+            rest = later;
         }
-        Running { piece, fed, stack }
+        state
     }
 
-    // Takes a part of any length in, or refuses it and gives the record back as it stood.
-    pub fn feed(self, part: &[u8]) -> Fed
+    // Takes a part of any length in, or refuses it.
+    #[tactic(auto, unfolding(crate::specs::Running::fed_with))]
+    pub fn feed(self, part: &[u8]) -> Result<Running, Reason>
         ensures { result ≡ spec.fed_with self part.now }
     {
-        let fed = self.fed;
-        if too_many(fed, part.len()) {
-            return Fed {
-                answer: Answer::Refused(Reason::RunningHash),
-                state: self,
-            };
-        }
-        Fed {
-            answer: Answer::Done,
-            state: self.with_part(part),
-        }
+        check_room(self.fed, part.len())?;
+        Ok(self.with_part(part))
     }
 
-    // The hash of everything fed, or a refusal and zeros.
-    pub fn finish(self) -> Finished
+    // The eight words of the root: the last piece, joined to all that waits on its left.
+    fn ending(&self) -> [u32; 8]
+        ensures { result ≡ stackSpec.ending self.now.fed self.now.piece self.now.stack }
+    {
+        let t = pieces_done(self.fed);
+        let have = (self.fed - t * PIECE) as usize;
+        let cv = piece(&self.piece[..have], t, extent(t));
+        close(&self.stack, t, cv)
+    }
+
+    // The hash of everything fed, or a refusal.
+    #[tactic(auto, unfolding(crate::specs::Running::finished))]
+    pub fn finish(self) -> Result<[u8; 32], Reason>
         ensures { result ≡ spec.finished self }
     {
-        let fed = self.fed;
-        if too_many(fed, 0) {
-            return refused_finish();
-        }
-        let bytes = self.piece;
-        let stack = self.stack;
-        Finished {
-            answer: Answer::Done,
-            hash: bytes_of(ending(&bytes, fed, &stack)),
-        }
+        check_room(self.fed, 0)?;
+        Ok(bytes_of(self.ending()))
     }
 }

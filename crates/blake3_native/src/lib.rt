@@ -11,6 +11,6 @@ pub extern "C" fn embercymbal_blake3(input: &[u8], out: &mut [u8])
 {
     let hash = blake3::hash(input);
     if out.len() == 32 {
-        little::copy(&hash, out);
+        out.copy_from_slice(&hash);
     }
 }

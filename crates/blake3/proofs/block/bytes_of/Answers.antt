@@ -1,6 +1,24 @@
 -- `blake3::block::bytes_of` meets its contract. Assumes nothing.
-use Rattle.blake3.proofs.CompressLaws.{bytes_made}
+use Rattle.std.proofs.Common.{◌≡◌, ℕ, List, length, refl, ◌∙◌, ap, arith, rules}
+use Rattle.blake3.specs.Compress.{bytes_of_words}
+use Rattle.blake3.proofs.CompressLaws.{word_stored, long_still, words_all}
 use Rattle.blake3.proofs.block.bytes_of.Goals as goal
 
+pub loop-k-init : goal.loop-k-init
+unfolding bytes_of_words
+loop-k-init c = record { long = refl; stored = refl }
+
+pub loop-k-preserved : goal.loop-k-preserved
+loop-k-preserved c =
+    let l = c.loop-k in
+    let n : length c.args.v ≡ 8 = search rules in
+    let e = c.copy_from_slice.ensures.after ∙ c.to_le_bytes.ensures in
+    record {
+      long = long_still l.k l.out c.copy_from_slice.new.self (omega arith) (ap (λ (ys : List ℕ). length ys) e) ∙ l.invariant.long;
+      stored = word_stored l.k c.args.v l.out c.copy_from_slice.new.self (omega arith) (omega arith) e l.invariant.stored;
+    }
+
 pub returns : goal.returns
-returns c = let v = c.args.v in bytes_made v.w0 v.w1 v.w2 v.w3 v.w4 v.w5 v.w6 v.w7 c.write32.new.d c.write32-2.new.d c.write32-3.new.d c.write32-4.new.d c.write32-5.new.d c.write32-6.new.d c.write32-7.new.d c.write32-8.new.d c.write32.ensures.1 c.write32-2.ensures.1 c.write32-3.ensures.1 c.write32-4.ensures.1 c.write32-5.ensures.1 c.write32-6.ensures.1 c.write32-7.ensures.1 c.write32-8.ensures.1
+returns c =
+    let l = c.loop-k in
+    words_all l.k c.args.v l.out c.loop-k-test.false (search rules) l.invariant.long l.invariant.stored

@@ -1,14 +1,16 @@
 -- `blake3::stack::push` meets its contract. Assumes nothing.
-use Rattle.blake3.specs.Types.{eight}
-use Rattle.std.proofs.Common.{refl, ◌∙◌, arith}
-use Rattle.blake3.proofs.StackLaws.{push_more, push_end, room_above}
+use Rattle.std.proofs.Common.{refl, ◌∙◌}
+use Rattle.blake3.proofs.StackLaws.{push_more, push_here, push_none}
 use Rattle.blake3.proofs.stack.push.Goals as goal
 
-pub loop-before-init : goal.loop-before-init
-loop-before-init c = (omega arith, omega arith, refl)
+pub loop-h-init : goal.loop-h-init
+loop-h-init c = refl
 
-pub loop-before-preserved : goal.loop-before-preserved
-loop-before-preserved c = let a = c.args in let l = c.loop-before in let r = room_above l.h l.before l.invariant.0 l.invariant.1 c.loop-before-test.true in (r.0, r.1, push_more l.h l.before a.stack.now (eight l.tree) l.invariant.0 c.loop-before-test.true c.load.ensures c.parent-both.ensures ∙ l.invariant.2)
+pub returns-then-before-eq0 : goal.returns-then-before-eq0
+returns-then-before-eq0 c = let l = c.loop-h in push_here l.h l.before l.stack l.tree c.loop-h-test.true c.if-before-eq0.true ∙ l.invariant
+
+pub loop-h-preserved : goal.loop-h-preserved
+loop-h-preserved c = let l = c.loop-h in push_more l.h l.before l.stack l.tree c.loop-h-test.true c.if-before-eq0.false c.parent-both.ensures ∙ l.invariant
 
 pub returns : goal.returns
-returns c = let a = c.args in let l = c.loop-before in c.store.ensures ∙ push_end l.h l.before a.stack.now (eight l.tree) l.invariant.0 c.loop-before-test.false ∙ l.invariant.2
+returns c = let l = c.loop-h in push_none l.h l.before l.stack l.tree c.loop-h-test.false ∙ l.invariant

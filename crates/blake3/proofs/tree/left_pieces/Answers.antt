@@ -1,13 +1,16 @@
 -- `blake3::tree::left_pieces` meets its contract. Assumes nothing.
-use Rattle.std.proofs.Common.{suc, refl, arith}
-use Rattle.blake3.proofs.Splits.{left-made, pow-suc}
+use Rattle.std.proofs.Common.{◌<◌, ◌^◌, arith, pow_pos}
+use Rattle.blake3.proofs.Splits.{left_power}
 use Rattle.blake3.proofs.tree.left_pieces.Goals as goal
 
-pub loop-p-init : goal.loop-p-init
-loop-p-init c = ((0, refl), omega arith, omega arith)
-
-pub loop-p-preserved : goal.loop-p-preserved
-loop-p-preserved c = let l = c.loop-p in let i = l.invariant.0 in ((suc i.0, rw i.1 (omega (arith, pow-suc i.0))), omega arith, omega arith)
-
 pub returns : goal.returns
-returns c = let l = c.loop-p in let a = c.args in let i = l.invariant.0 in left-made a.n l.p (omega arith) record { exponent = i.0; power = i.1; leaves = l.invariant.2; no_more = omega arith }
+returns c =
+    let n = c.args.n in
+    let k = c.ilog2.result in
+    let e = c.ilog2.ensures in
+    let low = e.power_le in
+    let pos : 0 < 2 ^ k = pow_pos k in
+    record {
+      count = left_power n k (omega arith) e.power_le e.next_power_gt (omega arith);
+      parts = (omega arith, omega arith);
+    }

@@ -1,11 +1,14 @@
 -- `blake3::running::Running::with_part` meets its contract. Assumes nothing.
-use Rattle.std.proofs.Common.{◌≡◌, ◌+◌, ◌-◌, ◌≤◌, length, drop}
-use Rattle.blake3.proofs.FeedLaws.{state}
-use Rattle.blake3.specs.Running.{with_bytes}
+use Rattle.std.proofs.Common.{◌≡◌, ◌+◌, ◌≤◌, length}
+use Rattle.blake3.specs.Running.{most_fed, with_bytes}
 use Rattle.blake3.proofs.running.Running.with_part.Given as goal
 
-abbrev pub invariant-loop-at : goal.invariant-loop-at
-invariant-loop-at l = (length l.piece ≡ 1024) × (length l.stack ≡ 240) × (l.at ≤ length l.part) × (l.fed + (length l.part - l.at) ≤ 1099511627776) × (with_bytes (state l.piece l.fed l.stack) (drop l.at l.part) ≡ with_bytes (state l.initial.piece l.initial.fed l.initial.stack) l.part)
+abbrev pub invariant-loop-rest : goal.invariant-loop-rest
+invariant-loop-rest l = record {
+  long : length l.state.piece ≡ 1024;
+  room : l.state.fed + length l.rest ≤ most_fed;
+  left : with_bytes l.state l.rest ≡ with_bytes l.fn.self l.part;
+}
 
-abbrev pub decreases-loop-at : goal.decreases-loop-at
-decreases-loop-at l = length l.part - l.at
+abbrev pub decreases-loop-rest : goal.decreases-loop-rest
+decreases-loop-rest l = length l.rest
