@@ -9,7 +9,7 @@ bench/native-lib cauchy_native >/dev/null
 mkdir -p target/bench
 linked=(-l static=cauchy_native)
 if [ $# -gt 0 ]; then
-  bench/native-before "$1" cauchy_native cauchy_recovery cauchy_rebuild_all
+  bench/native-before "$1" cauchy_native cauchy_recovery cauchy_recovery_four cauchy_rebuild_all
   linked+=(-l static=before_cauchy_native --cfg before)
 fi
 if headers=$(dpkg -L libjerasure-dev 2>/dev/null | grep '/galois\.h$'); then

@@ -8,19 +8,20 @@ use lib.Dec.{ltb, eqb}
 use Rattle.little.specs.Said.{Said, refused, says}
 use Rattle.little.proofs.Laws.{said_laws}
 use Rattle.cauchy.specs.Decode.{holding}
-use Rattle.cauchy.specs.Calls.{wrong_shape, wrong_lent, recovered, recovery_spec, wrong_four, four_spec, wrong_memory, rebuilt, rebuild_spec, rebuild_all_spec}
+use Rattle.cauchy.specs.Calls.{wrong_shape, wrong_lent, recovered, recovery_spec, wrong_four, four_spec, wrong_memory, rebuilt, rebuild_spec, rebuild_all_spec, Answer}
 use Rattle.cauchy.specs.Answers.{answer_said, Answers}
-use Rattle.cauchy.specs.declared.Answer.{Answer}
+use Rattle.cauchy.specs.declared.shape.Refusal.{Refusal}
+use Rattle.std.specs.Prelude.{Ok, Err}
 
 -- ---- whatever a call leaves beside its answer
 
-recovery_says : (t : Bool) (out made : List ℕ) → answer_said (cond t (recovered out Answer.BadShape) (recovered made Answer.Done)).answer
+recovery_says : (t : Bool) (out made : List ℕ) → answer_said (cond t (recovered out (Err Refusal.BadShape)) (recovered made (Ok tt))).answer
     ≡ cond t (refused 71) (says "done" [])
 recovery_says true out made = refl
 recovery_says false out made = refl
 
 rebuild_says : (t u : Bool) (scratch numbers made zeros : List ℕ)
-    → answer_said (cond t (rebuilt scratch numbers Answer.BadShape) (cond u (rebuilt scratch numbers Answer.TooFew) (rebuilt made zeros Answer.Done))).answer
+    → answer_said (cond t (rebuilt scratch numbers (Err Refusal.BadShape)) (cond u (rebuilt scratch numbers (Err Refusal.TooFew)) (rebuilt made zeros (Ok tt)))).answer
     ≡ cond t (refused 71) (cond u (refused 50) (says "done" []))
 rebuild_says true u scratch numbers made zeros = refl
 rebuild_says false true scratch numbers made zeros = refl
@@ -56,13 +57,13 @@ module _ (n m s : ℕ) (marks store scratch numbers : List ℕ) where
 -- ---- an answer, from what it says
 
 abbrev answer_of_said : Said → Answer
-answer_of_said (refused k) = cond (eqb k 71) Answer.BadShape Answer.TooFew
-answer_of_said (says word values) = Answer.Done
+answer_of_said (refused k) = Err (cond (eqb k 71) Refusal.BadShape Refusal.TooFew)
+answer_of_said (says word values) = Ok tt
 
 answer_back : (v : Answer) → answer_of_said (answer_said v) ≡ v
-answer_back Answer.Done = refl
-answer_back Answer.BadShape = refl
-answer_back Answer.TooFew = refl
+answer_back (Ok _) = refl
+answer_back (Err Refusal.BadShape) = refl
+answer_back (Err Refusal.TooFew) = refl
 
 pub answers : Answers
 answers = record {

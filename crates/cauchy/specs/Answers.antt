@@ -1,16 +1,16 @@
 -- The answers of the code by document 01's numbers, and when each call gives which: 71 before 50, as the container gives them. A
 -- definition, and statements, proved in proofs/Answers.antt for any numbers and any lent memory.
-use Rattle.std.specs.Prelude.{◌≡◌, cond, ◌||◌, List, [], ℕ, ◌/◌, length, ltb}
+use Rattle.std.specs.Prelude.{◌≡◌, Ok, Err, cond, ◌||◌, List, [], ℕ, ◌/◌, length, ltb}
 use Rattle.little.specs.Said.{Said, refused, says, Apart}
 use Rattle.cauchy.specs.Decode.{holding}
-use Rattle.cauchy.specs.Calls.{wrong_shape, wrong_lent, recovery_spec, wrong_four, four_spec, wrong_memory, rebuild_spec, rebuild_all_spec}
-use Rattle.cauchy.specs.declared.Answer.{Answer}
+use Rattle.cauchy.specs.Calls.{wrong_shape, wrong_lent, recovery_spec, wrong_four, four_spec, wrong_memory, rebuild_spec, rebuild_all_spec, Answer}
+use Rattle.cauchy.specs.declared.shape.Refusal.{Refusal}
 
 -- what an answer says: that it is done, or its number
 abbrev pub answer_said : Answer → Said
-answer_said Answer.Done = says "done" []
-answer_said Answer.BadShape = refused 71
-answer_said Answer.TooFew = refused 50
+answer_said (Ok _) = says "done" []
+answer_said (Err Refusal.BadShape) = refused 71
+answer_said (Err Refusal.TooFew) = refused 50
 
 pub record Answers : Type 0 where
   -- recovery: 71 exactly if a house limit is passed, there is no block k, or what is lent has another length

@@ -1,11 +1,15 @@
 -- What each public call answers and leaves in lent memory (document 01, "The receiver and its house limits", "The code", "Marks,
 -- hand-out, prefix"); what that means is stated in specs/Theorems.antt. Assumes nothing: these are definitions.
-use Rattle.std.specs.Prelude.{Bool, cond, not, ◌&&◌, ◌||◌, List, [], ◌∷◌, ◌++◌, ℕ, zero, suc, ◌+◌, ◌-◌, ◌*◌, ◌/◌, ◌%◌, min, length, get_or, drop, ltb, leb, eqb}
+use Rattle.std.specs.Prelude.{Bool, Result, Ok, Err, cond, not, ◌&&◌, ◌||◌, List, [], ◌∷◌, ◌++◌, ℕ, zero, suc, ◌+◌, ◌-◌, ◌*◌, ◌/◌, ◌%◌, min, length, get_or, drop, ltb, leb, eqb}
 use Rattle.little.specs.Fields.{bytes_of}
 use Rattle.little.specs.Runs.{zeros}
 use Rattle.cauchy.specs.Code.{most_data, most_recovery, least_block, most_block, numbers_room, joined, recovery_block}
 use Rattle.cauchy.specs.Decode.{holding, missing_data, found_words, decode}
-use Rattle.cauchy.specs.declared.Answer.{Answer}
+use Rattle.cauchy.specs.declared.shape.Refusal.{Refusal}
+
+-- what a call answers: that it is done, or why it is refused
+abbrev pub Answer : Type 0
+Answer = Result (Unit {0}) Refusal
 
 -- a house limit is passed: n is 1 to 1,024, m at most 32, s even and 2 to 4,096
 unfoldable pub wrong_shape : ℕ → ℕ → ℕ → Bool
@@ -28,8 +32,8 @@ wrong_lent n m s k blocks out = not (ltb k m) || not (eqb (length blocks) (n * s
 unfoldable pub recovery_spec : ℕ → ℕ → ℕ → ℕ → List ℕ → List ℕ → Recovered
 recovery_spec n m s k blocks out =
     cond (wrong_shape n m s || wrong_lent n m s k blocks out)
-    (recovered out Answer.BadShape)
-    (recovered (recovery_block n m s blocks k) Answer.Done)
+    (recovered out (Err Refusal.BadShape))
+    (recovered (recovery_block n m s blocks k) (Ok tt))
 
 -- ---- recovery_four
 
@@ -46,8 +50,8 @@ wrong_four n m s k front last out =
 unfoldable pub four_spec : ℕ → ℕ → ℕ → ℕ → List ℕ → List ℕ → List ℕ → Recovered
 four_spec n m s k front last out =
     cond (wrong_shape n m s || wrong_four n m s k front last out)
-    (recovered out Answer.BadShape)
-    (recovered (joined (λ r. recovery_block n m s (front ++ last) (k + r)) 0 (up_to_four m k)) Answer.Done)
+    (recovered out (Err Refusal.BadShape))
+    (recovered (joined (λ r. recovery_block n m s (front ++ last) (k + r)) 0 (up_to_four m k)) (Ok tt))
 
 -- ---- rebuild
 
@@ -92,10 +96,10 @@ rebuilt_scratch n m s marks store first count scratch =
 unfoldable pub rebuild_spec : ℕ → ℕ → ℕ → List ℕ → List ℕ → List ℕ → List ℕ → ℕ → ℕ → Rebuilt
 rebuild_spec n m s marks store scratch numbers first count =
     cond (wrong_shape n m s || wrong_memory n m s (length marks) (length store) (length scratch) (length numbers) first count)
-    (rebuilt scratch numbers Answer.BadShape)
+    (rebuilt scratch numbers (Err Refusal.BadShape))
     (cond (ltb (holding marks) n)
-    (rebuilt scratch numbers Answer.TooFew)
-    (rebuilt (rebuilt_scratch n m s marks store first count scratch) (zeros numbers_room) Answer.Done))
+    (rebuilt scratch numbers (Err Refusal.TooFew))
+    (rebuilt (rebuilt_scratch n m s marks store first count scratch) (zeros numbers_room) (Ok tt)))
 
 -- ---- rebuild_all
 
@@ -108,7 +112,7 @@ decoded_scratch n m s marks store scratch =
 unfoldable pub rebuild_all_spec : ℕ → ℕ → ℕ → List ℕ → List ℕ → List ℕ → List ℕ → Rebuilt
 rebuild_all_spec n m s marks store scratch numbers =
     cond (wrong_shape n m s || wrong_memory n m s (length marks) (length store) (length scratch) (length numbers) 0 (s / 2))
-    (rebuilt scratch numbers Answer.BadShape)
+    (rebuilt scratch numbers (Err Refusal.BadShape))
     (cond (ltb (holding marks) n)
-    (rebuilt scratch numbers Answer.TooFew)
-    (rebuilt (decoded_scratch n m s marks store scratch) (zeros numbers_room) Answer.Done))
+    (rebuilt scratch numbers (Err Refusal.TooFew))
+    (rebuilt (decoded_scratch n m s marks store scratch) (zeros numbers_room) (Ok tt)))

@@ -1,9 +1,8 @@
 -- The number under which an answer of `cauchy` goes out, and what a call then leaves. Assumes nothing: these are definitions.
 use Rattle.std.specs.Prelude.{ℕ, List}
 use Rattle.little.specs.Said.{Said, refused, says}
-use Rattle.cauchy.specs.Calls.{Recovered, Rebuilt}
+use Rattle.cauchy.specs.Calls.{Answer, Recovered, Rebuilt}
 use Rattle.cauchy.specs.Answers.{answer_said}
-use Rattle.cauchy.specs.declared.Answer.{Answer}
 
 -- document 01's number of a refusal, and 0 where there is none
 unfoldable pub said_number : Said → ℕ

@@ -1,20 +1,30 @@
-// The calls of `cauchy` under C names, for programs in other languages and for measuring: an answer goes out as document 01's number.
+// The calls of `cauchy` under C names, for programs in other languages and for measuring: an answer goes out as document 01's
+// number, since C has no `Result`, and numbers and pieces of memory come in one by one, since C has no struct of slices.
 #![tactic(auto)]
 
-ghost use Rattle.std.specs.Prelude.{◌≡◌};
+ghost use Rattle.std.specs.Prelude.{◌≡◌, Err};
 ghost use Rattle.cauchy.specs.Calls.{recovery_spec, four_spec, rebuild_all_spec};
 ghost use Rattle.cauchy_native.specs.Number.{number_of, recovery_left, numbered_recovery, rebuild_left, numbered_rebuild};
 
-use cauchy::{Answer, rebuild_all, recovery, recovery_four};
+use cauchy::{Refusal, Shape, rebuild_all, recovery, recovery_four};
 
-// 0 for done, 71 for a wrong shape, 50 for too few held.
-fn number(a: Answer) -> u8
-    ensures { result ≡ number_of a }
+// 71 for a wrong shape, 50 for too few held.
+fn refusal_number(refusal: Refusal) -> u8
+    ensures { result ≡ number_of (Err refusal) }
 {
-    match a {
-        Answer::Done => 0,
-        Answer::BadShape => 71,
-        Answer::TooFew => 50,
+    match refusal {
+        Refusal::BadShape => 71,
+        Refusal::TooFew => 50,
+    }
+}
+
+// 0 for done, and else the refusal's number.
+fn number(answer: Result<(), Refusal>) -> u8
+    ensures { result ≡ number_of answer }
+{
+    match answer {
+        Ok(()) => 0,
+        Err(refusal) => refusal_number(refusal),
     }
 }
 
@@ -30,7 +40,7 @@ pub extern "C" fn cauchy_recovery(
 ) -> u8
     ensures { recovery_left out.new result ≡ numbered_recovery (recovery_spec n m s k store.now out.old) }
 {
-    number(recovery(n, m, s, k, store, out))
+    number(recovery(Shape { n, m, s }, k, store, out))
 }
 
 // The recovery blocks from k on, up to four, into `out`; the last data block lies apart.
@@ -46,7 +56,7 @@ pub extern "C" fn cauchy_recovery_four(
 ) -> u8
     ensures { recovery_left out.new result ≡ numbered_recovery (four_spec n m s k front.now last.now out.old) }
 {
-    number(recovery_four(n, m, s, k, front, last, out))
+    number(recovery_four(Shape { n, m, s }, k, front, last, out))
 }
 
 // The missing data blocks, rising, into scratch.
@@ -62,5 +72,5 @@ pub extern "C" fn cauchy_rebuild_all(
 ) -> u8
     ensures { rebuild_left scratch.new numbers.new result ≡ numbered_rebuild (rebuild_all_spec n m s marks.now store.now scratch.old numbers.old) }
 {
-    number(rebuild_all(n, m, s, store, marks, scratch, numbers))
+    number(rebuild_all(Shape { n, m, s }, store, marks, scratch, numbers))
 }

@@ -16,8 +16,9 @@ use Rattle.cauchy.proofs.blocks.Filled.{read_filled, length-filled, else_filled}
 use Rattle.cauchy.proofs.ranges.RangeLaws.{word_part}
 use Rattle.cauchy.specs.Laws.{Enough}
 use Rattle.cauchy.proofs.columns.EndLaws.{enough, fine}
+use Rattle.cauchy.proofs.shape.ShapeLaws.{right}
 use Rattle.little.proofs.Laws.{test_laws}
-use Rattle.cauchy.specs.declared.Answer.{Answer}
+use Rattle.std.specs.Prelude.{Ok}
 use Rattle.cauchy.specs.Decode.{missing, missing_data, held, holding, found_words, rank, decode}
 use Rattle.cauchy.specs.Code.{joined, word_bytes, word_at}
 use Rattle.cauchy.specs.Calls.{wrong_shape, wrong_memory, in_range, filled, Rebuilt, rebuilt_scratch, rebuild_spec, decoded_scratch, rebuild_all_spec}
@@ -138,11 +139,12 @@ all_is n m s marks store scratch numbers =
     either Rebuilt _ _ _ _ _ _
     (λ p q.
     let o = test_laws.or-false (wrong_shape n m s) (wrong_memory n m s (length marks) (length store) (length scratch) (length numbers) 0 (s / 2)) p in
-    let f = fine n m s (length marks) (length store) (length scratch) (length numbers) 0 (s / 2) o.0 o.1 in
+    let f = fine n m s (length marks) (length store) (length scratch) (length numbers) 0 (s / 2) o.1 in
+    let g = right n m s o.0 in
     λ i. record {
-      scratch = all-columns n m s marks store scratch f.shape.s_least f.shape.even f.marks_long f.scratch_long (ltb-false (holding marks) n q) i;
+      scratch = all-columns n m s marks store scratch g.s_least g.even f.marks_long f.scratch_long (ltb-false (holding marks) n q) i;
       numbers = replicate 1024 0;
-      answer = Answer.Done;
+      answer = Ok tt;
     })
 
 pub decodes_words : DecodesWords

@@ -4,9 +4,9 @@ use mathlib.Core.Path.{◌≡◌, refl, sym, ap, ap₂, ◌∙◌}
 use mathlib.Core.List.{List, ◌++◌, append-nil, append_assoc}
 use native.Mathlib.Nat.{add-mul, one-mul, mul-le-mul_right}
 use native.Mathlib.Omega.{arith}
-use lib.ListN.{length, take, drop, length-append, drop_of_length-le}
+use lib.ListN.{length, take, drop, length-append}
 use Rattle.little.specs.Parts.{put}
-use Rattle.little.proofs.Laws.{put_laws, block_laws}
+use Rattle.little.proofs.Laws.{put_laws}
 use Rattle.cauchy.specs.Code.{joined}
 
 pub joined-append : (f : ℕ → List ℕ) (c a b : ℕ) → joined f c (a + b) ≡ joined f c a ++ joined f (c + a) b
@@ -42,9 +42,6 @@ module _ {f : ℕ → List ℕ} {count width : ℕ} {d₀ : List ℕ} {i at : �
   pub run_length : length d ≡ length d₀
   run_length = ap length r.made ∙ put_laws.length-put d₀ 0 (joined f 0 i) (omega (arith, r.long, inside))
 
-  pub run_room : i < count → at + width ≤ length d
-  run_room h = omega (arith, r.reached, r.whole, run_length, block_laws.block_inside width count i h)
-
   pub run_turn : i < count → (ys : List ℕ) (n at' : ℕ) → n ≡ width → at' ≡ at + width → ys ≡ f i → length (f i) ≡ width
       → Run f count width d₀ (i + 1) at' (take at d ++ (ys ++ drop n (drop at d)))
   run_turn h ys n at' en ea ey l =
@@ -60,9 +57,3 @@ module _ {f : ℕ → List ℕ} {count width : ℕ} {d₀ : List ℕ} {i at : �
         long = ap length (sym j) ∙ length-append (joined f 0 i) ys ∙ omega (arith, r.long);
         whole = r.whole;
       }
-
-  pub run_end : count ≤ i → d ≡ joined f 0 count
-  run_end h =
-      let e : i ≡ count = omega (arith, r.to) in
-      let z : length d₀ ≤ length (joined f 0 i) = omega (arith, r.long, r.reached, r.whole, ap (λ (k : ℕ). k * width) e) in
-      r.made ∙ ap (λ (l : List ℕ). joined f 0 i ++ l) (drop_of_length-le d₀ z) ∙ append-nil (joined f 0 i) ∙ ap (λ (k : ℕ). joined f 0 k) e

@@ -1,15 +1,16 @@
 -- The loops over marks, a law for each turn: the lists of missing blocks and of rows, and how many are held. Assumes nothing.
 use mathlib.Core.Path.{◌≡◌, refl, sym, ◌∙◌, ap, ap₂}
 use mathlib.Core.List.{List, [], ◌∷◌, ◌++◌}
-use Prim.Native.Nat.{ℕ, zero, suc, ◌+◌, ◌-◌, ◌≤◌, ◌<◌}
+use Prim.Native.Nat.{ℕ, zero, suc, ◌+◌, ◌≤◌, ◌<◌}
 use native.Mathlib.Omega.{arith}
 use native.Mathlib.Numerals.{add-one}
-use native.Mathlib.Decide.{dec_lt}
+use native.Mathlib.Decide.{dec_lt, ℕ_discrete}
 use lib.ListN.{length, get_or, take, drop, set, length-set, length-drop}
-use mathlib.Core.Bool.{Bool, cond}
+use mathlib.Core.Bool.{Bool, true, false, cond}
+use Rattle.std.proofs.lemmas.List.Recursion.{is_count_by}
+use Rattle.std.specs.List.{count_by}
 use lib.Dec.{eqb}
-use borrow.Author.Tests.{eq-eqb, ne_eqb}
-use lib.Seq.{drop-cons, drop-length, take-suc, take-suc-set, take_all, get_or-take, get_or-drop, length-take-le}
+use lib.Seq.{get_or-set_same, get_or-set_other, take-suc, take-suc-set, take_all, get_or-take, get_or-drop, length-take-le}
 use Rattle.cauchy.proofs.decoding.Known.{length-held, length-missing, held_none, held_one, missing_at}
 use Rattle.cauchy.specs.Decode.{missing, count, held, present}
 
@@ -120,10 +121,19 @@ pub record Picked (n m : ℕ) (marks out : List ℕ) (e got k : ℕ) : Type 0 wh
   pub most : got ≤ e
   pub count : got ≡ length (present 0 (take k (held (drop n marks))))
   pub list : take got out ≡ take got (present 0 (held (drop n marks)))
+  pub words : (i : ℕ) → get_or out i 0 < 65536
 
-pub picked_start : (n m : ℕ) (marks out : List ℕ) (e : ℕ) → length out ≡ 32 → Picked n m marks out e 0 0
+pub picked_start : (n m : ℕ) (marks out : List ℕ) (e : ℕ) → length out ≡ 32 → ((i : ℕ) → get_or out i 0 < 65536) → Picked n m marks out e 0 0
 unfolding present
-picked_start n m marks out e l = record { room = l; most = omega arith; count = refl; list = refl }
+picked_start n m marks out e l b = record { room = l; most = omega arith; count = refl; list = refl; words = b }
+
+-- a word written among words
+set-words : (out : List ℕ) (p v : ℕ) → p < length out → v < 65536 → ((i : ℕ) → get_or out i 0 < 65536) → (i : ℕ) → get_or (set out p v) i 0 < 65536
+set-words out p v h hv b i = go (ℕ_discrete i p)
+  where
+    go : Dec (i ≡ p) → get_or (set out p v) i 0 < 65536
+    go (yes e) = rw (e, get_or-set_same out p v 0 h) hv
+    go (no ne) = rw (get_or-set_other out p i v 0 ne) (b i)
 
 pub picked_more : (n m : ℕ) (marks out : List ℕ) (e got k : ℕ) → length marks ≡ n + m → e ≤ length (present 0 (held (drop n marks))) → got < e → Picked n m marks out e got k → k < m
 picked_more n m marks out e got k l h g P = go (dec_lt k m)
@@ -138,10 +148,10 @@ picked_more n m marks out e got k l h g P = go (dec_lt k m)
 pub picked_skip : (n m : ℕ) (marks out : List ℕ) (e got k : ℕ) → (get_or marks (n + k) 0 ≡ 1 → ⊥) → Picked n m marks out e got k → Picked n m marks out e got (k + 1)
 picked_skip n m marks out e got k o P =
     let z : get_or (held (drop n marks)) k 0 ≡ 0 = held_none (drop n marks) k (λ q. o (sym (get_or-drop n marks k 0) ∙ q)) in
-    record { room = P.room; most = P.most; count = P.count ∙ sym (ap (λ (i : ℕ). length (present 0 (take i (held (drop n marks))))) (add-one k) ∙ present-same 0 (held (drop n marks)) k z); list = P.list }
+    record { room = P.room; most = P.most; count = P.count ∙ sym (ap (λ (i : ℕ). length (present 0 (take i (held (drop n marks))))) (add-one k) ∙ present-same 0 (held (drop n marks)) k z); list = P.list; words = P.words }
 
-pub picked-take : (n m : ℕ) (marks out : List ℕ) (e got k v : ℕ) → get_or marks (n + k) 0 ≡ 1 → got < e → e ≤ 32 → v ≡ k → Picked n m marks out e got k → Picked n m marks (set out got v) e (got + 1) (k + 1)
-picked-take n m marks out e got k v o g h32 ev P =
+pub picked-take : (n m : ℕ) (marks out : List ℕ) (e got k v : ℕ) → get_or marks (n + k) 0 ≡ 1 → got < e → e ≤ 32 → v ≡ k → v < 65536 → Picked n m marks out e got k → Picked n m marks (set out got v) e (got + 1) (k + 1)
+picked-take n m marks out e got k v o g h32 ev hv P =
     let z : 0 < get_or (held (drop n marks)) k 0 = omega (arith, held_one (drop n marks) k (get_or-drop n marks k 0 ∙ o)) in
     let p = present-rank 0 (held (drop n marks)) k z in
     let at : get_or (present 0 (held (drop n marks))) got 0 ≡ 0 + k = ap (λ (i : ℕ). get_or (present 0 (held (drop n marks))) i 0) P.count ∙ p.0 in
@@ -150,30 +160,8 @@ picked-take n m marks out e got k v o g h32 ev P =
       most = omega arith;
       count = add-one got ∙ ap suc P.count ∙ sym (ap (λ (i : ℕ). length (present 0 (take i (held (drop n marks))))) (add-one k) ∙ present_more 0 (held (drop n marks)) k z);
       list = write_next (present 0 (held (drop n marks))) out got v P.list (at ∙ omega arith) (omega (arith, P.count, p.1)) (omega (arith, P.room));
+      words = set-words out got v (omega (arith, P.room)) hv P.words;
     }
-
--- ---- how many are held, from the back
-
-held_down : (ms : List ℕ) (I : ℕ) → 0 < I → I ≤ length ms → held (drop (I - 1) ms) ≡ cond (eqb (get_or ms (I - 1) 0) 1) 1 0 ∷ held (drop I ms)
-unfolding held
-held_down ms I h l =
-    let e : suc (I - 1) ≡ I = omega arith in
-    ap held (drop-cons ms (I - 1) 0 (omega arith)) ∙ ap (λ (k : ℕ). cond (eqb (get_or ms (I - 1) 0) 1) 1 0 ∷ held (drop k ms)) e
-
-pub holding-one : (ms : List ℕ) (I c : ℕ) → 0 < I → I ≤ length ms → c ≡ count (held (drop I ms)) → get_or ms (I - 1) 0 ≡ 1 → c + 1 ≡ count (held (drop (I - 1) ms))
-unfolding count
-holding-one ms I c h l e o = add-one c ∙ ap suc e ∙ sym (ap count (held_down ms I h l ∙ ap (λ (t : Bool). cond t 1 0 ∷ held (drop I ms)) (eq-eqb (get_or ms (I - 1) 0) 1 o)))
-
-pub holding-other : (ms : List ℕ) (I c : ℕ) → 0 < I → I ≤ length ms → c ≡ count (held (drop I ms)) → (get_or ms (I - 1) 0 ≡ 1 → ⊥) → c ≡ count (held (drop (I - 1) ms))
-unfolding count
-holding-other ms I c h l e o = e ∙ sym (ap count (held_down ms I h l ∙ ap (λ (t : Bool). cond t 1 0 ∷ held (drop I ms)) (ne_eqb (get_or ms (I - 1) 0) 1 o)))
-
-pub holding-end : (ms : List ℕ) (I c : ℕ) → I ≡ 0 → c ≡ count (held (drop I ms)) → c ≡ count (held ms)
-holding-end ms I c z e = rw z at e
-
-pub holding_start : (ms : List ℕ) → 0 ≡ count (held (drop (length ms) ms))
-unfolding count held
-holding_start ms = sym (ap (λ (x : List ℕ). count (held x)) (drop-length ms))
 
 -- ---- where as many data blocks are missing as there are, none is held
 
@@ -189,3 +177,13 @@ all-missing n m e marks l ee en j h one =
     let t : length (take n marks) ≡ n = length-take-le n marks (omega arith) in
     let o = count_some (held (take n marks)) j (held_one (take n marks) j (get_or-take n marks j 0 h ∙ one)) in
     omega (arith, length-missing m (held (take n marks)), length-held (take n marks))
+
+-- ---- how many are held
+
+pub holding-count : (ms : List ℕ) → count_by (λ (mark : ℕ). eqb mark 1) ms ≡ count (held ms)
+unfolding count held
+holding-count ms = sym (is_count_by (λ (l : List ℕ). count (held l)) (λ (mark : ℕ). eqb mark 1) refl (λ mark l. go (eqb mark 1) l) ms)
+  where
+    go : (t : Bool) (l : List ℕ) → count (cond t 1 0 ∷ held l) ≡ cond t (1 + count (held l)) (count (held l))
+    go true l = omega arith
+    go false l = refl

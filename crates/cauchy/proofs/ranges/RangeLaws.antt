@@ -11,6 +11,7 @@ use borrow.Author.Tests.{lt-ltb, le-ltb}
 use Rattle.little.proofs.Laws.{byte_laws}
 use Rattle.cauchy.specs.Code.{word_at}
 use Rattle.cauchy.specs.Calls.{filled, in_range}
+use Rattle.cauchy.specs.declared.ranges.Range.{Range}
 use Rattle.cauchy.specs.inner.Promises.{Room}
 use Rattle.cauchy.proofs.blocks.Filled.{same-filled}
 
@@ -32,8 +33,9 @@ ltb_other l t n = go (dec_lt l t)
 pub range_in : (s first count e p q t : ℕ) → Room s first count e p q → t < e → t * s + 2 * first + 2 * count ≤ e * s
 range_in s first count e p q t r h = omega (arith, mul-le-mul_right {m = t + 1} {n = e} s (omega arith), r.words)
 
-pub room_for : (s first count e p q e' p' q' : ℕ) → Room s first count e p q → e' ≡ e → p' ≡ 2 * count → q' ≡ q → Room s first count e' p' q'
-room_for s first count e p q e' p' q' r a b d = record { least = r.least; most = r.most; even = r.even; words = r.words; few = omega (arith, r.few); inside = rw (a, d) r.inside; whole = b }
+-- the room of the range's own words in e blocks
+pub room_of : (g : Range) (e part size : ℕ) → e ≤ 32 → part ≡ 2 * g.count → e * g.s ≤ size → Room g.s g.first g.count e part size
+room_of g e part size few whole inside = record { least = g.s_least; most = g.s_most; even = g.even; words = g.words; few = few; inside = inside; whole = whole }
 
 -- a word of a part that begins at word `first`
 pub word_part : (store : List ℕ) (b s first count width w : ℕ) → width ≡ 2 * count → first ≤ w → w < first + count

@@ -6,4 +6,4 @@ use Rattle.cauchy.proofs.rebuild_all.Goals as goal
 pub returns : goal.returns
 returns c =
     let a = c.args in
-    c.rebuild.ensures ∙ all_is a.n a.m a.s a.marks.now a.store.now a.scratch.now a.numbers.now
+    c.rebuild.ensures ∙ all_is a.shape.n a.shape.m a.shape.s a.marks.now a.store.now a.scratch.now a.numbers.now

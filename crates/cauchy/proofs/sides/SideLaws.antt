@@ -11,18 +11,19 @@ use lib.Seq.{get_or-take, length-take-le}
 use lib.Bits.{bit_xor, xor_lt, xor_zero_l}
 use borrow.Author.Tests.{ne_eqb}
 use Rattle.little.specs.Fields.{Bytes}
-use Rattle.little.proofs.Laws.{block_laws, part_laws, byte_laws, little_laws}
+use Rattle.little.proofs.Laws.{part_laws, byte_laws, little_laws}
 use Rattle.gf16.proofs.Laws.{laws}
 use Rattle.cauchy.specs.Code.{word_at, word_of, word_bytes, share}
 use Rattle.cauchy.specs.Decode.{held_sum, side, sides}
 use Rattle.cauchy.specs.Calls.{filled}
-use Rattle.cauchy.specs.inner.Promises.{Below, Room, Rows}
+use Rattle.cauchy.specs.declared.sides.Damaged.{Damaged}
+use Rattle.cauchy.specs.inner.Promises.{Below, Room}
 use Rattle.cauchy.proofs.blocks.BlockLaws.{length-word_bytes, word_bytes_ext, word_back_small, below_word_bytes, words_same}
 use Rattle.cauchy.proofs.blocks.CodeLaws.{sum_none}
 use Rattle.cauchy.proofs.blocks.WordBytes.{word_lt}
 use Rattle.cauchy.proofs.blocks.Filled.{put-filled, filled_ext}
 use Rattle.cauchy.proofs.tables.SummedLaws.{summed_words}
-use Rattle.cauchy.proofs.ranges.RangeLaws.{none_filled, ltb_other, range_in}
+use Rattle.cauchy.proofs.ranges.RangeLaws.{none_filled, ltb_other}
 use Rattle.cauchy.proofs.decoding.Known.{length-sides, get_or-sides}
 use Rattle.cauchy.specs.inner.Packed.{Sums, SumsFor, unit_of, row_bytes, held_rows, Summed}
 use Rattle.cauchy.specs.inner.Ranges.{Columns, sides_scratch}
@@ -132,20 +133,17 @@ sides-columns n m s e marks store xs hm bytes bx l = record {
   below = λ w i h. rw (get_or-sides n m s marks store w xs i (omega (arith, length-sides n m s marks store w xs))) (side_below n m s marks store w (get_or xs i 0) (bx i) hm bytes);
 }
 
--- where row i finds its recovery block's words, and where it puts its own
-pub record Places (n m s first count e i k : ℕ) (store : List ℕ) (size : ℕ) : Type 0 where
-  pub row : n + k < 1056
-  pub store_in : (n + k) * s + 2 * first + 2 * count ≤ length store
-  pub scratch_in : i * s + 2 * first + 2 * count ≤ size
-
-pub places : (n m s first count e part size i : ℕ) (rows store : List ℕ) → Room s first count e part size → Rows n m s (take e rows) store → i < e → length rows ≡ 32
-    → Places n m s first count e i (get_or rows i 0) store size
-places n m s first count e part size i rows store room r hi lr =
-    let k : get_or rows i 0 < m = rw (get_or-take e rows i 0 hi) at (r.below i (omega (arith, length-take-le e rows (omega (arith, room.few))))) in record {
-      row = omega (arith, r.n_most, r.m_most);
-      store_in = omega (arith, room.words, r.size, block_laws.block_inside s (n + m) (n + get_or rows i 0) (omega arith));
-      scratch_in = omega (arith, room.inside, range_in s first count e part size i room hi);
-    }
+-- what a damaged store tells
+pub room_in : (d : Damaged) (part size : ℕ) → part ≡ 2 * d.range.count → d.e * d.code.s ≤ size → Room d.code.s d.range.first d.range.count d.e part size
+room_in d part size whole inside = record {
+  least = d.code.s_least;
+  most = d.code.s_most;
+  even = d.code.even;
+  words = omega (arith, d.range.words, d.same);
+  few = d.few;
+  inside = inside;
+  whole = whole;
+}
 
 -- the sums of a row are those of the four rows among which it is
 module _ (n m s first W : ℕ) (marks rows store : List ℕ) where

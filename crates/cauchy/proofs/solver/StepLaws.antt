@@ -1,10 +1,9 @@
 -- A step of either pass over blocks, row by row: in each column it is the step of one column (Passes). Assumes nothing.
 use mathlib.Core.Path.{◌≡◌, refl, sym, ap, ap₂, ◌∙◌}
-use mathlib.Core.List.{List, ◌++◌, append-nil}
+use mathlib.Core.List.{List, ◌++◌}
 use Prim.Native.Nat.{ℕ, ◌+◌, ◌-◌, ◌*◌, ◌/◌, ◌≤◌, ◌<◌}
 use native.Mathlib.Omega.{arith}
-use lib.ListN.{length, get_or, take, drop, set, drop_of_length-le}
-use lib.Seq.{take_all}
+use lib.ListN.{length, get_or, take, drop, set}
 use lib.Bits.{bit_xor, xor_comm, xor_zero_r}
 use Rattle.gf16.specs.Field.{Elem, mul, inv}
 use Rattle.gf16.proofs.Laws.{laws, Field·simp}
@@ -31,11 +30,6 @@ mix_row c d n f h dst src made hf hh ed es em =
     (λ w m. ap₂ (λ (x y : ℕ). bit_xor (mul c x) (mul d y))
     (ap (λ (x : List ℕ). word_at x (2 * w)) ed ∙ word_back_small f n w m (hf w m))
     (ap (λ (x : List ℕ). word_at x (2 * w)) es ∙ word_back_small h n w m (hh w m)))
-
--- a copy over a whole slice
-pub copy_all : (n : ℕ) (src dst made : List ℕ) → length src ≡ n → length dst ≡ n → made ≡ take n src ++ drop n dst → made ≡ src
-copy_all n src dst made ls ld e =
-    e ∙ ap₂ ◌++◌ (take_all n src (omega arith)) (drop_of_length-le dst {i = n} (omega arith)) ∙ append-nil src
 
 -- ---- the numbers that are mixed
 

@@ -34,10 +34,6 @@ Table a b c d n t = (i : ℕ) → i < n → get_or t i 0 ≡ products a b c d i
 abbrev pub Tables : ℕ → ℕ → ℕ → ℕ → List ℕ → List ℕ → Type 0
 Tables a b c d low high = Table a b c d 256 low × Table (mul a 256) (mul b 256) (mul c 256) (mul d 256) 256 high
 
--- two tables with an entry for each value of a byte
-abbrev pub Sized : List ℕ → List ℕ → Type 0
-Sized low high = (length low ≡ 256) × (length high ≡ 256)
-
 -- the n entries at the front once more after them, each with x added
 pub record Spread (n x : ℕ) (t t' : List ℕ) : Type 0 where
   pub size : length t' ≡ length t

@@ -1,12 +1,13 @@
 -- A reader of the promises may skip this file: it says what the inner functions promise each other. Assumes nothing: these are
 -- definitions.
-use Rattle.std.specs.Prelude.{◌≡◌, ◌≢◌, List, [], ◌∷◌, ℕ, suc, ◌+◌, ◌*◌, ◌/◌, ◌%◌, ◌≤◌, ◌<◌, length, get_or, drop}
+use Rattle.std.specs.Prelude.{◌≡◌, ◌≢◌, Bool, cond, not, ◌||◌, ltb, eqb, Ok, Err, ◌++◌, ◌-◌, List, [], ◌∷◌, ℕ, suc, ◌+◌, ◌*◌, ◌/◌, ◌%◌, ◌≤◌, ◌<◌, length, get_or, drop}
 use Rattle.std.specs.Int.Bits.{bit_xor}
 use Rattle.gf16.specs.Field.{mul, inv}
-use Rattle.cauchy.specs.Code.{most_data, most_recovery, least_block, most_block}
+use Rattle.cauchy.specs.Code.{most_recovery, least_block, most_block, joined, recovery_block}
 use Rattle.cauchy.specs.inner.System.{Ops, field, dot, zeros, reduce, back, extend, solve}
 use Rattle.cauchy.specs.Decode.{sides}
-use Rattle.cauchy.specs.Calls.{filled}
+use Rattle.cauchy.specs.Calls.{filled, Recovered, recovered}
+use Rattle.cauchy.specs.declared.shape.Refusal.{Refusal}
 
 -- each element is below b
 abbrev pub Below : ℕ → List ℕ → Type 0
@@ -97,14 +98,21 @@ pub record Room (s first count e part scratch : ℕ) : Type 0 where
   pub inside : e * s ≤ scratch
   pub whole : part ≡ 2 * count
 
--- the store and the rows in it
-pub record Rows (n m s : ℕ) (xs store : List ℕ) : Type 0 where
-  pub n_most : n ≤ most_data
-  pub m_most : m ≤ most_recovery
-  pub size : length store ≡ (n + m) * s
-  pub below : (i : ℕ) → i < length xs → get_or xs i 0 < m
-
 -- scratch with the unknowns of the system with rows xs and columns ys in the words that are asked for
 abbrev pub solved_scratch : ℕ → ℕ → ℕ → ℕ → ℕ → List ℕ → List ℕ → List ℕ → List ℕ → List ℕ → List ℕ
 solved_scratch n m s first count marks store xs ys scratch =
     filled s first count (length xs) (λ l w. get_or (solve field xs ys (sides n m s marks store w xs)) l 0) scratch
+
+-- ---- recovery blocks
+
+-- block k is none of the m, or the last data block, those before it or the room for `count` blocks has another length
+unfoldable pub wrong_parts : ℕ → ℕ → ℕ → ℕ → ℕ → List ℕ → List ℕ → List ℕ → Bool
+wrong_parts n m s k count front last out =
+    not (ltb k m) || not (eqb (length front) ((n - 1) * s)) || not (eqb (length last) s) || not (eqb (length out) (count * s))
+
+-- `count` recovery blocks from k on, of the data blocks in two parts; a refusal changes nothing
+unfoldable pub parts_recovered : ℕ → ℕ → ℕ → ℕ → ℕ → List ℕ → List ℕ → List ℕ → Recovered
+parts_recovered n m s k count front last out =
+    cond (wrong_parts n m s k count front last out)
+    (recovered out (Err Refusal.BadShape))
+    (recovered (joined (λ r. recovery_block n m s (front ++ last) (k + r)) 0 count) (Ok tt))

@@ -1,6 +1,5 @@
 -- `cauchy_rebuild_all` hands on what `rebuild_all` promises.
 use mathlib.Core.Path.{ap, ◌∙◌}
-use borrow.Author.Rules.{rules}
 use Rattle.cauchy.specs.Calls.{Rebuilt}
 use Rattle.cauchy_native.specs.Number.{number_of}
 use Rattle.cauchy_native.proofs.cauchy_rebuild_all.Goals as goal

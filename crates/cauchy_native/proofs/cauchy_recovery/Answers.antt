@@ -1,6 +1,5 @@
 -- `cauchy_recovery` hands on what `recovery` promises.
 use mathlib.Core.Path.{ap, ◌∙◌}
-use borrow.Author.Rules.{rules}
 use Rattle.cauchy.specs.Calls.{Recovered}
 use Rattle.cauchy_native.specs.Number.{number_of}
 use Rattle.cauchy_native.proofs.cauchy_recovery.Goals as goal

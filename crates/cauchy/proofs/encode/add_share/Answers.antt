@@ -2,4 +2,4 @@
 use Rattle.cauchy.proofs.encode.add_share.Goals as goal
 
 pub returns : goal.returns
-returns c = let e = c.add_block.ensures in (e.0 _ _ _ _ c.weights-x.ensures, e.1)
+returns c = c.add_block.ensures _ _ _ _ c.weights-x.ensures

@@ -1,10 +1,6 @@
 -- `list_missing` meets its contract. Assumes nothing.
-use Prim.Native.Nat.{◌-◌}
 use Rattle.cauchy.proofs.marks.ListLaws.{Missed}
 use Rattle.cauchy.proofs.marks.list_missing.Given as goal
 
 abbrev pub invariant-loop-j : goal.invariant-loop-j
 invariant-loop-j l = Missed l.n l.m l.marks l.out l.e l.j
-
-abbrev pub decreases-loop-j : goal.decreases-loop-j
-decreases-loop-j l = l.n - l.j

@@ -3,4 +3,4 @@ use Rattle.cauchy.proofs.tables.mix.Goals as goal
 
 pub returns : goal.returns
 returns c =
-    c.mix_words.ensures c.args.c c.args.d c.ranges.c.fits c.ranges.d.fits (c.fill_both.ensures.0 c.args.c c.args.d 0 0 c.pack_four.ensures)
+    c.mix_words.ensures c.args.c c.args.d c.ranges.c.fits c.ranges.d.fits (c.fill.ensures c.args.c c.args.d 0 0 c.pack_four.ensures)

@@ -1,13 +1,8 @@
 -- `times` meets its contract. Assumes nothing.
 use mathlib.Core.Path.{◌≡◌}
-use Prim.Native.Nat.{◌-◌, ◌/◌, ◌≤◌}
-use lib.ListN.{length}
 use Rattle.cauchy.specs.inner.Packed.{times_word}
 use Rattle.cauchy.proofs.blocks.MixLaws.{mixed}
 use Rattle.cauchy.proofs.tables.times.Given as goal
 
 abbrev pub invariant-loop-w : goal.invariant-loop-w
-invariant-loop-w l = (l.w ≤ length l.initial.dst / 2) × (length l.dst ≡ length l.initial.dst) × (l.dst ≡ mixed (times_word l.c l.initial.dst) l.w l.initial.dst)
-
-abbrev pub decreases-loop-w : goal.decreases-loop-w
-decreases-loop-w l = length l.initial.dst - l.w
+invariant-loop-w l = l.dst ≡ mixed (times_word l.c l.initial.dst) l.w l.initial.dst

@@ -1,8 +1,0 @@
--- `wrong_shape` meets its contract. Assumes nothing.
-use mathlib.Core.Path.{refl}
-use Rattle.cauchy.specs.Calls.{wrong_shape}
-use Rattle.cauchy.proofs.shape.wrong_shape.Goals as goal
-
-pub returns : goal.returns
-unfolding wrong_shape
-returns c = refl
