@@ -4,3 +4,4 @@ pub mod Spots
 pub mod Gather
 pub mod Writing
 pub mod Index
+pub mod Fields

@@ -2,4 +2,3 @@
 pub mod checks;
 pub mod places;
 pub mod reason;
-pub mod written;

@@ -9,34 +9,32 @@ mod session;
 mod writing;
 
 // A refusal's reason, and its number.
-pub use answer::reason::{Reason, number_of};
-// What a list of checks came to; how many bytes were written; which block, which byte, how many columns, and where an input broke.
-pub use answer::places::{BlockNumber, BytePlace, ColumnCount, Spot};
-pub use answer::reason::Checked;
-pub use answer::written::Written;
+pub use answer::reason::Reason;
+// Which block, which byte, and how many columns.
+pub use answer::places::{BlockNumber, BytePlace, ColumnCount};
 // A header's fields, from preamble, region and trailer.
-pub use format::header::{Head, HeaderRead, read_header};
+pub use format::header::{Head, read_header};
 // Where the value of one of its extension fields stands.
 pub use format::lookup::{FieldFound, find_field};
 // Whether bytes are a whole chunk of a file, and of which index, or where they broke.
-pub use format::chunk::{ChunkChecked, check_chunk};
+pub use format::chunk::{BrokenChunk, WholeChunk, check_chunk};
 // How long the chunk at the front of some bytes is.
-pub use format::chunk::{ChunkMeasured, measure_chunk};
+pub use format::chunk::measure_chunk;
 // A chunk offered to a session: fresh, a repeat or refused, and counted.
 pub use session::offer::{OfferAnswer, Verdict, offer};
 pub use session::tallies::Tallies;
 // How many indices of a session are held, and how many barred.
 pub use session::marks::{MarksCounted, count_marks};
 // The bytes before the first gap, unverified.
-pub use give::prefix::{PrefixGiven, prefix};
+pub use give::prefix::{UnverifiedPrefix, prefix};
 // One data block, held or rebuilt, unverified.
-pub use give::block::{BlockGiven, block};
+pub use give::block::{UnverifiedBlock, block};
 // The missing data blocks, rebuilt some word columns at a time.
-pub use give::turn::{TurnAnswer, Turned, rebuild_turn};
+pub use give::turn::{TurnAnswer, rebuild_turn};
 // The whole content after that, where it has the header's hash.
-pub use give::release::{HandedOut, Released, release};
+pub use give::release::{Complete, Released, release};
 // The unknown data blocks, index by index.
-pub use note::missing::{Listed, list_missing};
+pub use note::missing::list_missing;
 // The same as first and last of each range.
 pub use note::ranges::list_ranges;
 // The note that asks for them.

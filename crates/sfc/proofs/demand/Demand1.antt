@@ -12,13 +12,13 @@ use Rattle.little.specs.Parts.{put}
 use Rattle.little.proofs.Laws.{test_laws}
 use Rattle.little.specs.Runs.{any, zeros, same, among}
 use Rattle.blake3.specs.Tree.{hash}
-use Rattle.sfc.specs.answer.Numbers.{Check, checked, verdict, passes, number_of, reason_of}
-use Rattle.sfc.specs.format.Header.{length_field, header_checks, region_of, head_of, refused_header, accepted_header, read_header}
-use Rattle.sfc.specs.format.Extension.{Field, fields_of}
+use Rattle.sfc.specs.answer.Numbers.{Check, checked, verdict, passes, number_of, reason_of, Checked}
+use Rattle.sfc.specs.format.Header.{length_field, header_checks, region_of, head_of, read_header, header_verdict}
+use Rattle.sfc.specs.format.Extension.{fields_of}
 use Rattle.sfc.specs.format.Chunk.{index_of, alone_checks, chunk_length, measure_checks, measure_chunk}
 use Rattle.sfc.specs.format.Spot.{spot_for, check_chunk}
 use Rattle.sfc.specs.format.Lookup.{found_among, extension_of, extension_place, find_field}
-use Rattle.sfc.specs.answer.Places.{number, place}
+use Rattle.sfc.specs.answer.Places.{number, place, broken, complete, counts, field_found, unverified_block, unverified_prefix}
 use Rattle.sfc.specs.session.Marks.{is_held, held_count, barred_count}
 use Rattle.sfc.specs.session.Tallies.{counted, counted_refusal}
 use Rattle.sfc.specs.session.Session.{Session, session_of, with_block, settled, spot_of}
@@ -31,36 +31,16 @@ use Rattle.sfc.specs.give.TurnTheorems.{AsBefore}
 use Rattle.sfc.specs.give.Block.{block_given, block_lent, block_checks, block_request}
 use Rattle.sfc.specs.give.Prefix.{prefix_blocks, prefix_of, prefix_checks, prefix_given}
 use Rattle.sfc.specs.note.Missing.{missing, missing_checks, list_missing}
-use Rattle.sfc.specs.note.Note.{note_for, note_checks, write_note, count_in, ranges_in, read_checks, refused_note, good_note, read_note}
+use Rattle.sfc.specs.note.Note.{note_for, note_checks, write_note, count_in, ranges_in, read_checks, good_note, read_note}
 use Rattle.sfc.specs.note.Ranges.{bounds, bounds_for, range_checks, list_ranges}
 use Rattle.sfc.specs.writing.Writer.{Input, file_of, writer_checks, write_file}
 use Rattle.sfc.specs.demand.Demand1.{OneOf, Leaves, Ends, lent_left, Demand1}
 use Rattle.sfc.specs.declared.format.header.Head.{Head}
-use Rattle.sfc.specs.declared.format.header.HeaderRead.{HeaderRead}
 use Rattle.sfc.specs.declared.answer.places.BlockNumber.{BlockNumber}
 use Rattle.sfc.specs.declared.answer.places.BytePlace.{BytePlace}
 use Rattle.sfc.specs.declared.answer.reason.Reason.{Reason}
-use Rattle.sfc.specs.declared.answer.reason.Checked.{Checked}
-use Rattle.sfc.specs.declared.answer.reason.Checked.TheVariants.{Good, Refused}
-use Rattle.sfc.specs.declared.answer.places.Spot.{Spot}
-use Rattle.sfc.specs.declared.format.chunk.ChunkChecked.TheVariants.{Refused as NoChunk}
-use Rattle.sfc.specs.declared.format.lookup.FieldFound.{FieldFound}
-use Rattle.sfc.specs.declared.format.lookup.FieldFound.TheVariants.{At, Nothing, Refused as NotShown}
 use Rattle.sfc.specs.declared.session.offer.Verdict.TheVariants.{Refused as NotTaken}
 use Rattle.sfc.specs.declared.session.tallies.Tallies.{Tallies}
-use Rattle.sfc.specs.declared.give.turn.Turned.{Turned}
-use Rattle.sfc.specs.declared.give.turn.Turned.TheVariants.{Did, Refused as NoTurn}
-use Rattle.sfc.specs.declared.give.release.HandedOut.{HandedOut}
-use Rattle.sfc.specs.declared.give.release.HandedOut.TheVariants.{Complete, Refused as NotHandedOut}
-use Rattle.sfc.specs.declared.give.prefix.PrefixGiven.{PrefixGiven}
-use Rattle.sfc.specs.declared.give.prefix.PrefixGiven.TheVariants.{Unverified as PrefixUnverified, Refused as NoPrefix}
-use Rattle.sfc.specs.declared.give.block.BlockGiven.{BlockGiven}
-use Rattle.sfc.specs.declared.give.block.BlockGiven.TheVariants.{Unverified as BlockUnverified, Refused as NoBlock}
-use Rattle.sfc.specs.declared.note.missing.Listed.{Listed}
-use Rattle.sfc.specs.declared.note.missing.Listed.TheVariants.{Count, Refused as NotListed}
-use Rattle.sfc.specs.declared.note.resend.NoteRead.{NoteRead}
-use Rattle.sfc.specs.declared.answer.written.Written.{Written}
-use Rattle.sfc.specs.declared.answer.written.Written.TheVariants.{Bytes as Took, Refused as NotWritten}
 use Rattle.sfc.proofs.answer.CheckLaws.{passed, good_all, good_passes, front_good, refused_all, tells}
 use Rattle.sfc.proofs.session.SessionLaws.{right_lent, number_in}
 use Rattle.sfc.proofs.session.BreakLaws.{check_refused, kept_refused, offer_spot}
@@ -77,48 +57,55 @@ use Rattle.sfc.proofs.give.GivenLaws.{lent_right, lent_output}
 use Rattle.sfc.proofs.format.FieldInside.{field_in_region}
 use Rattle.sfc.proofs.answer.RefusalLaws.{leaves, ends, early_told}
 use Rattle.sfc.proofs.format.ChunkLaws.{measured_seen}
-use Rattle.sfc.specs.declared.format.chunk.ChunkMeasured.TheVariants.{Length, Refused as NotMeasured}
+use Rattle.sfc.specs.declared.answer.places.ColumnCount.{ColumnCount}
+use Rattle.sfc.specs.declared.give.release.Complete.{Complete}
 use Rattle.sfc.specs.declared.session.marks.MarksCounted.{MarksCounted}
-use Rattle.sfc.specs.declared.session.marks.MarksCounted.TheVariants.{Counts, Refused as NotCounted}
+use Rattle.sfc.specs.declared.note.resend.NoteRead.{NoteRead}
+use Rattle.sfc.specs.declared.give.block.UnverifiedBlock.{UnverifiedBlock}
+use Rattle.sfc.specs.declared.format.lookup.FieldFound.{FieldFound}
+use Rattle.sfc.specs.declared.give.prefix.UnverifiedPrefix.{UnverifiedPrefix}
+use Rattle.std.specs.Prelude.{Option, Result, Some, Ok, Err, IsOk, is_ok}
 
 -- ---- the verdict in each kind of answer
 
-abbrev field_seen : FieldFound → Checked
-field_seen (At p n) = Good
-field_seen Nothing = Good
-field_seen (NotShown r) = Refused r
+abbrev field_seen : Result (Option FieldFound) Reason → Checked
+field_seen (Ok f) = Ok tt
+field_seen (Err r) = Err r
 
-abbrev pub hand_out_seen : HandedOut → Checked
-hand_out_seen (Complete p) = Good
-hand_out_seen (NotHandedOut r) = Refused r
+abbrev pub hand_out_seen : Result Complete Reason → Checked
+hand_out_seen (Ok c) = Ok tt
+hand_out_seen (Err r) = Err r
 
-abbrev prefix_seen : PrefixGiven → Checked
-prefix_seen (PrefixUnverified i p) = Good
-prefix_seen (NoPrefix r) = Refused r
+abbrev prefix_seen : Result UnverifiedPrefix Reason → Checked
+prefix_seen (Ok p) = Ok tt
+prefix_seen (Err r) = Err r
 
-abbrev block_seen : BlockGiven → Checked
-block_seen (BlockUnverified i p) = Good
-block_seen (NoBlock r) = Refused r
+abbrev block_seen : Result UnverifiedBlock Reason → Checked
+block_seen (Ok b) = Ok tt
+block_seen (Err r) = Err r
 
-abbrev listed_seen : Listed → Checked
-listed_seen (Count k) = Good
-listed_seen (NotListed r) = Refused r
+abbrev listed_seen : Result ℕ Reason → Checked
+listed_seen (Ok k) = Ok tt
+listed_seen (Err r) = Err r
 
-abbrev pub written_seen : Written → Checked
-written_seen (Took k) = Good
-written_seen (NotWritten r) = Refused r
+abbrev pub written_seen : Result ℕ Reason → Checked
+written_seen (Ok k) = Ok tt
+written_seen (Err r) = Err r
+
+abbrev reading_seen : Result NoteRead Reason → Checked
+reading_seen (Ok a) = Ok tt
+reading_seen (Err r) = Err r
 
 -- ---- header and chunk
 
-header_refused : (b : List ℕ) (r : Reason) → (read_header b).verdict ≡ Refused r → (10 ≤ number_of r) × (number_of r ≤ 23) × (read_header b ≡ refused_header r)
+header_refused : (b : List ℕ) (r : Reason) → read_header b ≡ Err r → (10 ≤ number_of r) × (number_of r ≤ 23)
 unfolding read_header
 header_refused b r e =
-    let t = tells (λ (x : HeaderRead). x.verdict) refused_header (accepted_header (head_of (region_of b))) (λ q. refl) refl (header_checks b) (Refused r) e in
-    let n = number_in (λ (k : ℕ). (10 ≤ k) × (k ≤ 23)) (header_checks b) r
-    ((lit≤ tt, lit≤ tt), ((lit≤ tt, lit≤ tt), ((lit≤ tt, lit≤ tt), ((lit≤ tt, lit≤ tt), ((lit≤ tt, lit≤ tt), ((lit≤ tt, lit≤ tt), ((lit≤ tt, lit≤ tt), ((lit≤ tt, lit≤ tt), ((lit≤ tt, lit≤ tt), ((lit≤ tt, lit≤ tt), ((lit≤ tt, lit≤ tt), ((lit≤ tt, lit≤ tt), ((lit≤ tt, lit≤ tt), ((lit≤ tt, lit≤ tt), ((lit≤ tt, lit≤ tt), tt))))))))))))))) t in
-    (n.0, n.1, refused_all refused_header (header_checks b) (accepted_header (head_of (region_of b))) r t)
+    let t = tells header_verdict Err (Ok (head_of (region_of b))) (λ q. refl) refl (header_checks b) (Err r) (ap header_verdict e) in
+    number_in (λ (k : ℕ). (10 ≤ k) × (k ≤ 23)) (header_checks b) r
+    ((lit≤ tt, lit≤ tt), ((lit≤ tt, lit≤ tt), ((lit≤ tt, lit≤ tt), ((lit≤ tt, lit≤ tt), ((lit≤ tt, lit≤ tt), ((lit≤ tt, lit≤ tt), ((lit≤ tt, lit≤ tt), ((lit≤ tt, lit≤ tt), ((lit≤ tt, lit≤ tt), ((lit≤ tt, lit≤ tt), ((lit≤ tt, lit≤ tt), ((lit≤ tt, lit≤ tt), ((lit≤ tt, lit≤ tt), ((lit≤ tt, lit≤ tt), ((lit≤ tt, lit≤ tt), tt))))))))))))))) t
 
-chunk_refused : (h : Head) (c : List ℕ) (r : Reason) (p : Spot) → check_chunk h c ≡ NoChunk r p
+chunk_refused : (h : Head) (c : List ℕ) (r : Reason) (p : Option BytePlace) → check_chunk h c ≡ Err (broken r p)
     → OneOf r (71 ∷ 30 ∷ 31 ∷ 32 ∷ 33 ∷ 34 ∷ 35 ∷ 36 ∷ 37 ∷ 38 ∷ 39 ∷ 40 ∷ []) × (p ≡ spot_for h c (number_of r))
 unfolding any
 chunk_refused h c r p e =
@@ -128,56 +115,47 @@ chunk_refused h c r p e =
       w.1,
     )
 
-measure_refused : (h : Head) (b : List ℕ) (r : Reason) → measure_chunk h b ≡ NotMeasured r → OneOf r (71 ∷ 30 ∷ 31 ∷ 32 ∷ [])
+measure_refused : (h : Head) (b : List ℕ) (r : Reason) → measure_chunk h b ≡ Err r → OneOf r (71 ∷ 30 ∷ 31 ∷ 32 ∷ [])
 unfolding measure_chunk any
 measure_refused h b r e =
     number_in (λ (k : ℕ). among k (71 ∷ 30 ∷ 31 ∷ 32 ∷ []) ≡ true) (measure_checks h b) r (refl, (refl, (refl, (refl, (refl, tt)))))
-    (tells measured_seen NotMeasured (Length (chunk_length b)) (λ q. refl) refl (measure_checks h b) (Refused r) (ap measured_seen e))
+    (tells measured_seen Err (Ok (chunk_length b)) (λ q. refl) refl (measure_checks h b) (Err r) (ap measured_seen e))
 
-abbrev counted_seen : MarksCounted → Checked
-counted_seen (Counts held barred) = Good
-counted_seen (NotCounted r) = Refused r
+abbrev counted_seen : Result MarksCounted Reason → Checked
+counted_seen (Ok c) = Ok tt
+counted_seen (Err r) = Err r
 
-count_refused : (h : Head) (marks : List ℕ) (r : Reason) → count_marks h marks ≡ NotCounted r → OneOf r (71 ∷ [])
+count_refused : (h : Head) (marks : List ℕ) (r : Reason) → count_marks h marks ≡ Err r → OneOf r (71 ∷ [])
 unfolding count_marks any
 count_refused h marks r e =
     number_in (λ (k : ℕ). among k (71 ∷ []) ≡ true) (count_checks h marks) r (refl, tt)
-    (tells counted_seen NotCounted (Counts (held_count marks) (barred_count marks)) (λ q. refl) refl (count_checks h marks) (Refused r) (ap counted_seen e))
+    (tells counted_seen Err (Ok (counts (held_count marks) (barred_count marks))) (λ q. refl) refl (count_checks h marks) (Err r) (ap counted_seen e))
 
 -- ---- a field
-
-field_good : (tag at : ℕ) (fs : List Field) → field_seen (found_among tag at fs) ≡ Good
-unfolding found_among
-field_good tag at [] = refl
-field_good tag at (f ∷ fs) = go (eqb f.tag tag) (field_good tag (at + 6 + length f.value) fs)
-  where
-    go : (t : Bool) → field_seen (found_among tag (at + 6 + length f.value) fs) ≡ Good
-        → field_seen (cond t (At (place (at + 6)) (length f.value)) (found_among tag (at + 6 + length f.value) fs)) ≡ Good
-    go true e = refl
-    go false e = e
 
 module _ (b : List ℕ) (tag : ℕ) where
   field_told : (v : Checked) → field_seen (find_field b tag) ≡ v → verdict (header_checks b) ≡ v
   unfolding find_field
-  field_told v e = tells field_seen NotShown (found_among tag (extension_place (region_of b)) (fields_of (extension_of (region_of b)))) (λ q. refl) (field_good tag (extension_place (region_of b)) (fields_of (extension_of (region_of b)))) (header_checks b) v e
+  field_told v e = tells field_seen Err (Ok (found_among tag (extension_place (region_of b)) (fields_of (extension_of (region_of b))))) (λ q. refl) refl (header_checks b) v e
 
-  field_refused : (r : Reason) → find_field b tag ≡ NotShown r
-      → OneOf r (10 ∷ 11 ∷ 12 ∷ 13 ∷ 14 ∷ 15 ∷ 16 ∷ 17 ∷ 18 ∷ 19 ∷ 20 ∷ 21 ∷ 22 ∷ 23 ∷ []) × ((read_header b).verdict ≡ Refused r)
+  field_refused : (r : Reason) → find_field b tag ≡ Err r
+      → OneOf r (10 ∷ 11 ∷ 12 ∷ 13 ∷ 14 ∷ 15 ∷ 16 ∷ 17 ∷ 18 ∷ 19 ∷ 20 ∷ 21 ∷ 22 ∷ 23 ∷ []) × (read_header b ≡ Err r)
   unfolding read_header any
   field_refused r e =
-      let t = field_told (Refused r) (ap field_seen e) in (
+      let t = field_told (Err r) (ap field_seen e) in (
         number_in (λ (k : ℕ). among k (10 ∷ 11 ∷ 12 ∷ 13 ∷ 14 ∷ 15 ∷ 16 ∷ 17 ∷ 18 ∷ 19 ∷ 20 ∷ 21 ∷ 22 ∷ 23 ∷ []) ≡ true) (header_checks b) r
             (refl, (refl, (refl, (refl, (refl, (refl, (refl, (refl, (refl, (refl, (refl, (refl, (refl, (refl, (refl, tt))))))))))))))) t,
-        ap (λ (x : HeaderRead). x.verdict) (refused_all refused_header (header_checks b) (accepted_header (head_of (region_of b))) r t),
+        refused_all Err (header_checks b) (Ok (head_of (region_of b))) r t,
       )
 
-  field_inside : (p long : ℕ) → find_field b tag ≡ At (place p) long → ((read_header b).verdict ≡ Good) × (p + long ≤ length_field b + 12) × (length_field b + 76 ≤ length b)
+  field_inside : (p long : ℕ) → find_field b tag ≡ Ok (Some (field_found (place p) long)) → IsOk (read_header b) × (p + long ≤ length_field b + 12) × (length_field b + 76 ≤ length b)
   unfolding read_header find_field
   field_inside p long e =
-      let t = field_told Good (ap field_seen e) in
-      let f = sym (good_all NotShown (header_checks b) (found_among tag (extension_place (region_of b)) (fields_of (extension_of (region_of b)))) t) ∙ e in
+      let t = field_told (Ok tt) (ap field_seen e) in
+      let g : ◌≡◌ {A = Result (Option FieldFound) Reason} (Ok (found_among tag (extension_place (region_of b)) (fields_of (extension_of (region_of b))))) (Ok (Some (field_found (place p) long))) = sym (good_all Err (header_checks b) _ t) ∙ e in
+      let f : found_among tag (extension_place (region_of b)) (fields_of (extension_of (region_of b))) ≡ Some (field_found (place p) long) = cc in
       let i = field_in_region b tag p long t f in
-      (ap (λ (x : HeaderRead). x.verdict) (good_all refused_header (header_checks b) (accepted_header (head_of (region_of b))) t), i.0, i.1)
+      (ap is_ok (good_all Err (header_checks b) (Ok (head_of (region_of b))) t), i.0, i.1)
 
 -- ---- an offer
 
@@ -223,22 +201,22 @@ module _ (h : Head) (y : Logged) (c : List ℕ) (r : Reason) (e : offer_verdict 
 
 -- ---- a turn and a release
 
-abbrev turn_seen : Turned → Checked
-turn_seen (Did k) = Good
-turn_seen (NoTurn r) = Refused r
+abbrev turn_seen : Result ColumnCount Reason → Checked
+turn_seen (Ok k) = Ok tt
+turn_seen (Err r) = Err r
 
-turn_refused : (h : Head) (store marks scratch numbers : List ℕ) (f b : ℕ) (r : Reason) → (turn h store marks scratch numbers f b).answer ≡ NoTurn r
-    → OneOf r (71 ∷ 50 ∷ []) × ◌≡◌ {A = Turning} (turn h store marks scratch numbers f b) (turning_of (NoTurn r) f scratch numbers)
+turn_refused : (h : Head) (store marks scratch numbers : List ℕ) (f b : ℕ) (r : Reason) → (turn h store marks scratch numbers f b).answer ≡ Err r
+    → OneOf r (71 ∷ 50 ∷ []) × ◌≡◌ {A = Turning} (turn h store marks scratch numbers f b) (turning_of (Err r) f scratch numbers)
 unfolding turn any
 turn_refused h store marks scratch numbers f b r e =
-    let t = tells (λ (z : Turning). turn_seen z.answer) (λ (q : Reason). turning_of (NoTurn q) f scratch numbers)
-    (turn_done h store marks scratch f (turn_count h marks f b)) (λ q. refl) refl (turn_checks h store marks scratch numbers f) (Refused r) (ap turn_seen e) in
+    let t = tells (λ (z : Turning). turn_seen z.answer) (λ (q : Reason). turning_of (Err q) f scratch numbers)
+    (turn_done h store marks scratch f (turn_count h marks f b)) (λ q. refl) refl (turn_checks h store marks scratch numbers f) (Err r) (ap turn_seen e) in
     (number_in (λ (k : ℕ). among k (71 ∷ 50 ∷ []) ≡ true) (turn_checks h store marks scratch numbers f) r (refl, (refl, tt)) t, turn-not h store marks scratch numbers f b r t)
 
-handed_one : (a b : Reason) → ◌≡◌ {A = HandedOut} (NotHandedOut a) (NotHandedOut b) → a ≡ b
+handed_one : (a b : Reason) → ◌≡◌ {A = Result Complete Reason} (Err a) (Err b) → a ≡ b
 handed_one a b e = cc
 
-no_answer : {A : Type 0} (r : Reason) (p : BytePlace) → ◌≡◌ {A = HandedOut} (NotHandedOut r) (Complete p) → A
+no_answer : {A : Type 0} (r : Reason) (p : BytePlace) → ◌≡◌ {A = Result Complete Reason} (Err r) (Ok (complete p)) → A
 no_answer r p e = absurd (let z : ◌≡◌ {A = ℕ} 0 1 = cc in omega arith)
 
 module _ (h : Head) (store marks scratch : List ℕ) (f : ℕ) (out : List ℕ) where
@@ -248,7 +226,7 @@ module _ (h : Head) (store marks scratch : List ℕ) (f : ℕ) (out : List ℕ) 
 
   abbrev release_by : Bool → Bool → Bool → Bool → Bool → Releasing
   release_by a b c d e = record {
-    answer = checked (front a b c d ++ ((e, 51) ∷ [])) NotHandedOut (Complete (place h.size));
+    answer = checked (front a b c d ++ ((e, 51) ∷ [])) Err (Ok (complete (place h.size)));
     finished = cond (passes (front a b c d)) 0 f;
     scratch = cond (passes (front a b c d)) (zeros (length scratch)) scratch;
     output = checked (front a b c d ++ ((e, 51) ∷ [])) (λ (r : Reason). out) (put out 0 (joined_of h store marks scratch));
@@ -256,9 +234,9 @@ module _ (h : Head) (store marks scratch : List ℕ) (f : ℕ) (out : List ℕ) 
 
   abbrev Left : Releasing → Reason → Type 0
   Left z r = OneOf r (71 ∷ 52 ∷ 50 ∷ 54 ∷ 51 ∷ [])
-      × ◌≡◌ {A = Releasing} z (releasing_of (NotHandedOut r) (cond (eqb (number_of r) 51) 0 f) (cond (eqb (number_of r) 51) (zeros (length scratch)) scratch) out)
+      × ◌≡◌ {A = Releasing} z (releasing_of (Err r) (cond (eqb (number_of r) 51) 0 f) (cond (eqb (number_of r) 51) (zeros (length scratch)) scratch) out)
 
-  left_by : (a b c d e : Bool) (r : Reason) → (release_by a b c d e).answer ≡ NotHandedOut r → Left (release_by a b c d e) r
+  left_by : (a b c d e : Bool) (r : Reason) → (release_by a b c d e).answer ≡ Err r → Left (release_by a b c d e) r
   unfolding any
   left_by true b c d e r q = subst (Left (release_by true b c d e)) (handed_one (reason_of 71) r q) (refl, refl)
   left_by false true c d e r q = subst (Left (release_by false true c d e)) (handed_one (reason_of 52) r q) (refl, refl)
@@ -267,13 +245,13 @@ module _ (h : Head) (store marks scratch : List ℕ) (f : ℕ) (out : List ℕ) 
   left_by false false false false true r q = subst (Left (release_by false false false false true)) (handed_one (reason_of 51) r q) (refl, refl)
   left_by false false false false false r q = no_answer r (place h.size) (sym q)
 
-  release_refused : (r : Reason) → (release h store marks scratch f out).answer ≡ NotHandedOut r → Left (release h store marks scratch f out) r
+  release_refused : (r : Reason) → (release h store marks scratch f out).answer ≡ Err r → Left (release h store marks scratch f out) r
   unfolding release
   release_refused r e =
       left_by (columns_wrong h.size h.n h.m h.s store marks scratch f) (ltb (length out) h.size) (ltb (held_count marks) h.n)
       (ltb 0 (columns_left h.n h.s marks f)) (not (same (hash (joined_of h store marks scratch)) h.hash)) r e
 
-  release_ends : (p : ℕ) → (release h store marks scratch f out).answer ≡ Complete (place p)
+  release_ends : (p : ℕ) → (release h store marks scratch f out).answer ≡ Ok (complete (place p))
       → Ends p out (release h store marks scratch f out).output
       × ((release h store marks scratch f out).scratch ≡ zeros (length scratch)) × ((release h store marks scratch f out).finished ≡ 0)
   unfolding release
@@ -312,13 +290,13 @@ wiped past l out a b e n = rw e (ap (λ (k : ℕ). zeros k) n.0, ap (λ (k : ℕ
 module _ (h : Head) (store marks : List ℕ) (j : ℕ) (l : Lent) where
   block-told : (v : Checked) → block_seen (block_request h store marks j l).answer ≡ v → verdict (block_checks h store marks j l) ≡ v
   unfolding block_request
-  block-told v e = tells block_seen NoBlock (BlockUnverified (number j) (place (j * h.s))) (λ q. refl) refl (block_checks h store marks j l) v e
+  block-told v e = tells block_seen Err (Ok (unverified_block (number j) (place (j * h.s)))) (λ q. refl) refl (block_checks h store marks j l) v e
 
-  block_refused : (r : Reason) → (block_request h store marks j l).answer ≡ NoBlock r
+  block_refused : (r : Reason) → (block_request h store marks j l).answer ≡ Err r
       → OneOf r (71 ∷ 53 ∷ 52 ∷ 50 ∷ []) × ((block_request h store marks j l).lent ≡ lent_left r (71 ∷ 53 ∷ 52 ∷ []) l)
   unfolding block_request any
   block_refused r e =
-      let t = block-told (Refused r) (ap block_seen e) in
+      let t = block-told (Err r) (ap block_seen e) in
       let few : Bool = ltb (held_count marks) h.n && not (is_held (get_or marks j 0)) in
       let g = leaves (block_checks h store marks j l) r (71 ∷ 53 ∷ 52 ∷ 50 ∷ []) l.output (put l.output 0 (block_given h store marks j)) (refl, (refl, (refl, (refl, tt)))) t in (
         g.number,
@@ -327,12 +305,12 @@ module _ (h : Head) (store marks : List ℕ) (j : ℕ) (l : Lent) where
             g.output,
       )
 
-  block_ends : (i : BlockNumber) (p : BytePlace) → (block_request h store marks j l).answer ≡ BlockUnverified i p
+  block_ends : (i : BlockNumber) (p : BytePlace) → (block_request h store marks j l).answer ≡ Ok (unverified_block i p)
       → Ends h.s l.output (block_request h store marks j l).lent.output
   unfolding block_request
   block_ends i p e =
       let cs : List Check = block_checks h store marks j l in
-      let t = block-told Good (ap block_seen e) in
+      let t = block-told (Ok tt) (ap block_seen e) in
       let q = passed cs t in
       let w = right_lent h.size h.n h.m h.s store marks (lent_right h store marks l q.0) in
       rw (lent_output (passes (block_lent h store marks j l)) l (checked cs (λ (r : Reason). l.output) (put l.output 0 (block_given h store marks j))))
@@ -352,54 +330,54 @@ module _ (h : Head) (store marks out : List ℕ) where
   prefix_told : (v : Checked) → prefix_seen (prefix_given h store marks out).answer ≡ v → verdict (prefix_checks h store marks out) ≡ v
   unfolding prefix_given
   prefix_told v e =
-      tells prefix_seen NoPrefix (PrefixUnverified (number (prefix_blocks h marks)) (place (length (prefix_of h store marks)))) (λ q. refl) refl (prefix_checks h store marks out) v e
+      tells prefix_seen Err (Ok (unverified_prefix (number (prefix_blocks h marks)) (place (length (prefix_of h store marks))))) (λ q. refl) refl (prefix_checks h store marks out) v e
 
-  prefix_refused : (r : Reason) → (prefix_given h store marks out).answer ≡ NoPrefix r → Leaves r (71 ∷ 52 ∷ []) out (prefix_given h store marks out).output
+  prefix_refused : (r : Reason) → (prefix_given h store marks out).answer ≡ Err r → Leaves r (71 ∷ 52 ∷ []) out (prefix_given h store marks out).output
   unfolding prefix_given any
-  prefix_refused r e = leaves (prefix_checks h store marks out) r (71 ∷ 52 ∷ []) out (put out 0 (prefix_of h store marks)) (refl, (refl, tt)) (prefix_told (Refused r) (ap prefix_seen e))
+  prefix_refused r e = leaves (prefix_checks h store marks out) r (71 ∷ 52 ∷ []) out (put out 0 (prefix_of h store marks)) (refl, (refl, tt)) (prefix_told (Err r) (ap prefix_seen e))
 
-  prefix_ends : (i : BlockNumber) (p : ℕ) → (prefix_given h store marks out).answer ≡ PrefixUnverified i (place p) → Ends p out (prefix_given h store marks out).output
+  prefix_ends : (i : BlockNumber) (p : ℕ) → (prefix_given h store marks out).answer ≡ Ok (unverified_prefix i (place p)) → Ends p out (prefix_given h store marks out).output
   unfolding prefix_given
   prefix_ends i p e =
       let cs : List Check = prefix_checks h store marks out in
-      let t = prefix_told Good (ap prefix_seen e) in
-      let f : ◌≡◌ {A = PrefixGiven} (PrefixUnverified (number (prefix_blocks h marks)) (place (length (prefix_of h store marks)))) (PrefixUnverified i (place p)) = sym (good_all NoPrefix cs _ t) ∙ e in
-      let q : place (length (prefix_of h store marks)) ≡ place p = cc in
-      let k : length (prefix_of h store marks) ≡ p = ap (λ (y : BytePlace). y.0) q in
+      let t = prefix_told (Ok tt) (ap prefix_seen e) in
+      let f : ◌≡◌ {A = Result UnverifiedPrefix Reason} (Ok (unverified_prefix (number (prefix_blocks h marks)) (place (length (prefix_of h store marks))))) (Ok (unverified_prefix i (place p))) = sym (good_all Err cs _ t) ∙ e in
+      let q : unverified_prefix (number (prefix_blocks h marks)) (place (length (prefix_of h store marks))) ≡ unverified_prefix i (place p) = cc in
+      let k : length (prefix_of h store marks) ≡ p = ap (λ (y : UnverifiedPrefix). y.end.0) q in
       ends cs out (prefix_of h store marks) p t k (omega (arith, ltb-false (length out) (length (prefix_of h store marks)) (passed cs t).1.0))
 
 module _ (h : Head) (marks out : List ℕ) where
   missing-told : (v : Checked) → listed_seen (list_missing h marks out).answer ≡ v → verdict (missing_checks h marks out) ≡ v
   unfolding list_missing
-  missing-told v e = tells listed_seen NotListed (Count (length (missing h.n marks))) (λ q. refl) refl (missing_checks h marks out) v e
+  missing-told v e = tells listed_seen Err (Ok (length (missing h.n marks))) (λ q. refl) refl (missing_checks h marks out) v e
 
-  missing_refused : (r : Reason) → (list_missing h marks out).answer ≡ NotListed r → Leaves r (71 ∷ 52 ∷ []) out (list_missing h marks out).output
+  missing_refused : (r : Reason) → (list_missing h marks out).answer ≡ Err r → Leaves r (71 ∷ 52 ∷ []) out (list_missing h marks out).output
   unfolding list_missing any
-  missing_refused r e = leaves (missing_checks h marks out) r (71 ∷ 52 ∷ []) out (put out 0 (missing h.n marks)) (refl, (refl, tt)) (missing-told (Refused r) (ap listed_seen e))
+  missing_refused r e = leaves (missing_checks h marks out) r (71 ∷ 52 ∷ []) out (put out 0 (missing h.n marks)) (refl, (refl, tt)) (missing-told (Err r) (ap listed_seen e))
 
-  missing_ends : (k : ℕ) → (list_missing h marks out).answer ≡ Count k → Ends k out (list_missing h marks out).output
+  missing_ends : (k : ℕ) → (list_missing h marks out).answer ≡ Ok k → Ends k out (list_missing h marks out).output
   unfolding list_missing
   missing_ends k e =
       let cs : List Check = missing_checks h marks out in
-      let t = missing-told Good (ap listed_seen e) in
-      let f : ◌≡◌ {A = Listed} (Count (length (missing h.n marks))) (Count k) = sym (good_all NotListed cs _ t) ∙ e in
+      let t = missing-told (Ok tt) (ap listed_seen e) in
+      let f : ◌≡◌ {A = Result ℕ Reason} (Ok (length (missing h.n marks))) (Ok k) = sym (good_all Err cs _ t) ∙ e in
       let q : length (missing h.n marks) ≡ k = cc in
       ends cs out (missing h.n marks) k t q (omega (arith, ltb-false (length out) (length (missing h.n marks)) (passed cs t).1.0))
 
   ranges-told : (v : Checked) → listed_seen (list_ranges h marks out).answer ≡ v → verdict (range_checks h marks out) ≡ v
   unfolding list_ranges
-  ranges-told v e = tells listed_seen NotListed (Count (length (bounds_for h marks))) (λ q. refl) refl (range_checks h marks out) v e
+  ranges-told v e = tells listed_seen Err (Ok (length (bounds_for h marks))) (λ q. refl) refl (range_checks h marks out) v e
 
-  ranges_refused : (r : Reason) → (list_ranges h marks out).answer ≡ NotListed r → Leaves r (71 ∷ 52 ∷ []) out (list_ranges h marks out).output
+  ranges_refused : (r : Reason) → (list_ranges h marks out).answer ≡ Err r → Leaves r (71 ∷ 52 ∷ []) out (list_ranges h marks out).output
   unfolding list_ranges any
-  ranges_refused r e = leaves (range_checks h marks out) r (71 ∷ 52 ∷ []) out (put out 0 (bounds_for h marks)) (refl, (refl, tt)) (ranges-told (Refused r) (ap listed_seen e))
+  ranges_refused r e = leaves (range_checks h marks out) r (71 ∷ 52 ∷ []) out (put out 0 (bounds_for h marks)) (refl, (refl, tt)) (ranges-told (Err r) (ap listed_seen e))
 
-  ranges_ends : (k : ℕ) → (list_ranges h marks out).answer ≡ Count k → Ends k out (list_ranges h marks out).output
+  ranges_ends : (k : ℕ) → (list_ranges h marks out).answer ≡ Ok k → Ends k out (list_ranges h marks out).output
   unfolding list_ranges
   ranges_ends k e =
       let cs : List Check = range_checks h marks out in
-      let t = ranges-told Good (ap listed_seen e) in
-      let f : ◌≡◌ {A = Listed} (Count (length (bounds_for h marks))) (Count k) = sym (good_all NotListed cs _ t) ∙ e in
+      let t = ranges-told (Ok tt) (ap listed_seen e) in
+      let f : ◌≡◌ {A = Result ℕ Reason} (Ok (length (bounds_for h marks))) (Ok k) = sym (good_all Err cs _ t) ∙ e in
       let q : length (bounds_for h marks) ≡ k = cc in
       ends cs out (bounds_for h marks) k t q (omega (arith, ltb-false (length out) (length (bounds_for h marks)) (passed cs t).1.0))
 
@@ -408,39 +386,39 @@ module _ (h : Head) (marks out : List ℕ) where
 module _ (h : Head) (marks out : List ℕ) where
   note_told : (v : Checked) → written_seen (write_note h marks out).answer ≡ v → verdict (note_checks h marks out) ≡ v
   unfolding write_note
-  note_told v e = tells written_seen NotWritten (Took (length (note_for h marks))) (λ q. refl) refl (note_checks h marks out) v e
+  note_told v e = tells written_seen Err (Ok (length (note_for h marks))) (λ q. refl) refl (note_checks h marks out) v e
 
-  note_refused : (r : Reason) → (write_note h marks out).answer ≡ NotWritten r → Leaves r (71 ∷ 52 ∷ []) out (write_note h marks out).output
+  note_refused : (r : Reason) → (write_note h marks out).answer ≡ Err r → Leaves r (71 ∷ 52 ∷ []) out (write_note h marks out).output
   unfolding write_note any
-  note_refused r e = leaves (note_checks h marks out) r (71 ∷ 52 ∷ []) out (put out 0 (note_for h marks)) (refl, (refl, tt)) (note_told (Refused r) (ap written_seen e))
+  note_refused r e = leaves (note_checks h marks out) r (71 ∷ 52 ∷ []) out (put out 0 (note_for h marks)) (refl, (refl, tt)) (note_told (Err r) (ap written_seen e))
 
-  note_ends : (k : ℕ) → (write_note h marks out).answer ≡ Took k → Ends k out (write_note h marks out).output
+  note_ends : (k : ℕ) → (write_note h marks out).answer ≡ Ok k → Ends k out (write_note h marks out).output
   unfolding write_note
   note_ends k e =
       let cs : List Check = note_checks h marks out in
-      let t = note_told Good (ap written_seen e) in
-      let f : ◌≡◌ {A = Written} (Took (length (note_for h marks))) (Took k) = sym (good_all NotWritten cs _ t) ∙ e in
+      let t = note_told (Ok tt) (ap written_seen e) in
+      let f : ◌≡◌ {A = Result ℕ Reason} (Ok (length (note_for h marks))) (Ok k) = sym (good_all Err cs _ t) ∙ e in
       let q : length (note_for h marks) ≡ k = cc in
       ends cs out (note_for h marks) k t q (omega (arith, ltb-false (length out) (length (note_for h marks)) (passed cs t).1.0))
 
 module _ (b out : List ℕ) where
-  reading_told : (v : Checked) → (read_note b out).answer.verdict ≡ v → verdict (read_checks b out) ≡ v
+  reading_told : (v : Checked) → reading_seen (read_note b out).answer ≡ v → verdict (read_checks b out) ≡ v
   unfolding read_note
-  reading_told v e = tells (λ (x : NoteRead). x.verdict) refused_note (good_note b) (λ q. refl) refl (read_checks b out) v e
+  reading_told v e = tells reading_seen Err (Ok (good_note b)) (λ q. refl) refl (read_checks b out) v e
 
-  reading_refused : (r : Reason) → (read_note b out).answer.verdict ≡ Refused r
-      → Leaves r (70 ∷ 52 ∷ []) out (read_note b out).output × ((read_note b out).answer ≡ refused_note r)
+  reading_refused : (r : Reason) → (read_note b out).answer ≡ Err r → Leaves r (70 ∷ 52 ∷ []) out (read_note b out).output
   unfolding read_note any
   reading_refused r e =
-      let t = reading_told (Refused r) e in
-      (leaves (read_checks b out) r (70 ∷ 52 ∷ []) out (put out 0 (bounds (ranges_in b))) (refl, (refl, tt)) t, refused_all refused_note (read_checks b out) (good_note b) r t)
+      leaves (read_checks b out) r (70 ∷ 52 ∷ []) out (put out 0 (bounds (ranges_in b))) (refl, (refl, tt)) (reading_told (Err r) (ap reading_seen e))
 
-  reading_ends : (read_note b out).answer.verdict ≡ Good → Ends (2 * (read_note b out).answer.ranges) out (read_note b out).output
+  reading_ends : (a : NoteRead) → (read_note b out).answer ≡ Ok a → Ends (2 * a.ranges) out (read_note b out).output
   unfolding read_note
-  reading_ends e =
+  reading_ends a e =
       let cs : List Check = read_checks b out in
-      let t = reading_told Good e in
-      rw (good_all refused_note cs (good_note b) t)
+      let t = reading_told (Ok tt) (ap reading_seen e) in
+      let f : ◌≡◌ {A = Result NoteRead Reason} (Ok (good_note b)) (Ok a) = sym (good_all Err cs _ t) ∙ e in
+      let q : good_note b ≡ a = cc in
+      rw (← q)
       (ends cs out (bounds (ranges_in b)) (2 * count_in b) t (length-bounds b 23 (count_in b)) (ltb-false (length out) (2 * count_in b) (passed cs t).1.0))
 
 -- ---- the writer
@@ -448,18 +426,18 @@ module _ (b out : List ℕ) where
 module _ (w : Input) (out : List ℕ) where
   writing_told : (v : Checked) → written_seen (write_file w out).answer ≡ v → verdict (writer_checks w out) ≡ v
   unfolding write_file
-  writing_told v e = tells written_seen NotWritten (Took (length (file_of w))) (λ q. refl) refl (writer_checks w out) v e
+  writing_told v e = tells written_seen Err (Ok (length (file_of w))) (λ q. refl) refl (writer_checks w out) v e
 
-  writing_refused : (r : Reason) → (write_file w out).answer ≡ NotWritten r → Leaves r (60 ∷ 61 ∷ []) out (write_file w out).output
+  writing_refused : (r : Reason) → (write_file w out).answer ≡ Err r → Leaves r (60 ∷ 61 ∷ []) out (write_file w out).output
   unfolding write_file any
-  writing_refused r e = leaves (writer_checks w out) r (60 ∷ 61 ∷ []) out (put out 0 (file_of w)) (refl, (refl, tt)) (writing_told (Refused r) (ap written_seen e))
+  writing_refused r e = leaves (writer_checks w out) r (60 ∷ 61 ∷ []) out (put out 0 (file_of w)) (refl, (refl, tt)) (writing_told (Err r) (ap written_seen e))
 
-  writing_ends : (k : ℕ) → (write_file w out).answer ≡ Took k → Ends k out (write_file w out).output
+  writing_ends : (k : ℕ) → (write_file w out).answer ≡ Ok k → Ends k out (write_file w out).output
   unfolding write_file
   writing_ends k e =
       let cs : List Check = writer_checks w out in
-      let t = writing_told Good (ap written_seen e) in
-      let f : ◌≡◌ {A = Written} (Took (length (file_of w))) (Took k) = sym (good_all NotWritten cs _ t) ∙ e in
+      let t = writing_told (Ok tt) (ap written_seen e) in
+      let f : ◌≡◌ {A = Result ℕ Reason} (Ok (length (file_of w))) (Ok k) = sym (good_all Err cs _ t) ∙ e in
       let q : length (file_of w) ≡ k = cc in
       ends cs out (file_of w) k t q (omega (arith, ltb-false (length out) (length (file_of w)) (passed cs t).1.0))
 

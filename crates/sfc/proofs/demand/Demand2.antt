@@ -15,16 +15,13 @@ use Rattle.little.specs.Runs.{any}
 use Rattle.sfc.specs.format.Limits.{wanted_blocks}
 use Rattle.sfc.specs.session.Lent.{shape_wrong}
 use Rattle.sfc.specs.format.Extension.{fields_in, left_in, known_twice, extension_wrong}
-use Rattle.sfc.specs.format.Header.{flags_barred, distinct_below, accepted_header, read_header}
+use Rattle.sfc.specs.format.Header.{flags_barred, distinct_below, read_header}
 use Rattle.sfc.specs.format.Chunk.{index_of, payload_of, chunk_checks, alone_checks}
 use Rattle.sfc.specs.format.Spot.{refused_chunk, check_chunk}
-use Rattle.sfc.specs.answer.Places.{number, place}
+use Rattle.sfc.specs.answer.Places.{number, place, whole_at}
 use Rattle.sfc.specs.writing.Writer.{Input, blocks, body, region, preamble, trailer, payload, chunk, file_of, name_wrong, has_reserved, rises_weakly, tags_fall, write_file, head_for}
 use Rattle.sfc.specs.demand.Demand2.{Lawful, plain, Demand2}
 use Rattle.sfc.specs.answer.Numbers.{Answered}
-use Rattle.sfc.specs.declared.format.chunk.ChunkChecked.TheVariants.{Whole}
-use Rattle.sfc.specs.declared.answer.written.Written.{Written}
-use Rattle.sfc.specs.declared.answer.written.Written.TheVariants.{Bytes as Took}
 use Rattle.sfc.proofs.answer.CheckLaws.{passed, all-passed, good_all}
 use Rattle.sfc.proofs.session.MarkLaws.{right_shape}
 use Rattle.sfc.proofs.give.GivenLaws.{complete_has_hash}
@@ -34,6 +31,8 @@ use Rattle.sfc.proofs.writing.RegionBack.{length-region}
 use Rattle.sfc.proofs.writing.InputLaws.{Typed, RightInput, right_input, tests_are}
 use Rattle.sfc.proofs.writing.HeaderBack.{preamble_long, header_back}
 use Rattle.sfc.proofs.demand.RoundTrip.{round_trip_between, chunk_of, offers_answered, round_trip}
+use Rattle.sfc.specs.declared.answer.reason.Reason.{Reason}
+use Rattle.std.specs.Prelude.{Result, Ok}
 
 -- ---- inputs that 60 lets through
 
@@ -49,7 +48,6 @@ any_content content s m uuid b u e =
       m_typed = omega (arith, r.m_most);
       s_typed = omega (arith, r.s_most);
       flags_typed = lit< tt;
-      indices_typed = λ i. lit< tt;
       time_typed = lit< tt;
     } in
     record {
@@ -63,19 +61,19 @@ module _ (w : Input) (l : Lawful w) where
   right = right_input w l.uuid_long l.right
 
   file_written : (out : List ℕ) → length (file_of w) ≤ length out
-      → ◌≡◌ {A = Answered Written} (write_file w out) (record { answer = Took (length (file_of w)); output = put out 0 (file_of w) })
+      → ◌≡◌ {A = Answered (Result ℕ Reason)} (write_file w out) (record { answer = Ok (length (file_of w)); output = put out 0 (file_of w) })
   unfolding write_file
   file_written out h = rw (l.right, le-ltb (length out) (length (file_of w)) h)
 
   -- ---- the header
 
-  header_read_back : (between : List ℕ) → read_header (preamble ++ region w ++ between ++ trailer w) ≡ accepted_header (head_for w)
+  header_read_back : (between : List ℕ) → read_header (preamble ++ region w ++ between ++ trailer w) ≡ Ok (head_for w)
   header_read_back between = header_back w l.uuid_long right between
 
   abbrev chunks : List ℕ
   chunks = joined (chunk w) 0 (blocks w + w.m)
 
-  file_read_back : read_header (file_of w) ≡ accepted_header (head_for w)
+  file_read_back : read_header (file_of w) ≡ Ok (head_for w)
   unfolding file_of
   file_read_back = header_read_back chunks
 
@@ -95,13 +93,13 @@ module _ (w : Input) (l : Lawful w) where
         ∙ part_laws.part-append-left chunks (trailer w) (i * (84 + w.s)) (84 + w.s) (omega (arith, chunks_long, block_laws.block_inside (84 + w.s) (blocks w + w.m) i h))
         ∙ block-joined (84 + w.s) (chunk w) 0 (blocks w + w.m) i (λ j a b. length_written w l.uuid_long l.right j) h ∙ ap (chunk w) z
 
-    chunk_read_back : (rest : List ℕ) → (check_chunk (head_for w) (chunk w i ++ rest) ≡ Whole (number i) (place 48)) × (payload_of (chunk w i ++ rest) ≡ payload w i)
+    chunk_read_back : (rest : List ℕ) → (check_chunk (head_for w) (chunk w i ++ rest) ≡ Ok (whole_at (number i) (place 48))) × (payload_of (chunk w i ++ rest) ≡ payload w i)
     unfolding check_chunk
     chunk_read_back rest =
         let c = chunk_of w l.uuid_long right.shape i h rest in (
-          good_all (refused_chunk (head_for w) (chunk w i ++ rest)) (alone_checks (head_for w) (chunk w i ++ rest)) (Whole (number (index_of (chunk w i ++ rest))) (place 48))
+          good_all (refused_chunk (head_for w) (chunk w i ++ rest)) (alone_checks (head_for w) (chunk w i ++ rest)) (Ok (whole_at (number (index_of (chunk w i ++ rest))) (place 48)))
               (all-passed (alone_checks (head_for w) (chunk w i ++ rest)) (right.shape, passed (chunk_checks (head_for w) (chunk w i ++ rest)) c.whole))
-              ∙ ap (λ (k : ℕ). Whole (number k) (place 48)) c.index,
+              ∙ ap (λ (k : ℕ). Ok (whole_at (number k) (place 48))) c.index,
           c.brings,
         )
 

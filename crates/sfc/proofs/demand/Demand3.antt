@@ -22,8 +22,6 @@ use Rattle.little.specs.Runs.{among}
 use Rattle.sfc.specs.demand.Demand3.{Right, held_in, Fitting, Gives, Withholds, HandsOut, Open, Free, Used, Demand3}
 use Rattle.sfc.specs.session.Right.{RightLent}
 use Rattle.sfc.specs.declared.format.header.Head.{Head}
-use Rattle.sfc.specs.declared.note.missing.Listed.{Listed}
-use Rattle.sfc.specs.declared.note.missing.Listed.TheVariants.{Count}
 use Rattle.sfc.proofs.session.OfferLaws.{one_offer}
 use Rattle.sfc.proofs.session.HistoryLaws.{many_offers}
 use Rattle.sfc.proofs.session.EndLaws.{end-state}
@@ -34,6 +32,8 @@ use Rattle.sfc.proofs.session.HeldLaws.{right_code, block-decoded}
 use Rattle.sfc.proofs.give.GivenLaws.{gives_enough, gives_held, withholds, hands_out, complete_has_hash}
 use Rattle.sfc.proofs.give.UnseenLaws.{block_unseen, turn_unseen, release_unseen, prefix_unseen}
 use Rattle.sfc.proofs.session.RightLaws.{accepted_right}
+use Rattle.sfc.specs.declared.answer.reason.Reason.{Reason}
+use Rattle.std.specs.Prelude.{Result, Ok}
 
 module _ (h : Head) (x : Session) (r : Right h x) where
   lent : RightLent h.size h.n h.m h.s x.store x.marks
@@ -106,8 +106,8 @@ module _ (h : Head) (x : Session) (r : Right h x) where
   open_missing j o = listed j ∙ (rw (lt-ltb (held_in x) h.n o.few, lt-ltb j h.n o.is_data, ne_eqb (get_or x.marks j 0) 1 o.unheld))
 
   missing-given : (out : List ℕ) → length (missing h.n x.marks) ≤ length out
-      → ◌≡◌ {A = Answered Listed} (list_missing h x.marks out)
-      (record { answer = Count (length (missing h.n x.marks)); output = put out 0 (missing h.n x.marks) })
+      → ◌≡◌ {A = Answered (Result ℕ Reason)} (list_missing h x.marks out)
+      (record { answer = Ok (length (missing h.n x.marks)); output = put out 0 (missing h.n x.marks) })
   unfolding list_missing lent_wrong
   missing-given out l =
       rw ((test_laws.or-false (marks_wrong h.size h.n h.m h.s x.marks) _ r.lent).0, le-ltb (length out) (length (missing h.n x.marks)) l)

@@ -20,7 +20,7 @@ use Rattle.sfc.specs.answer.Numbers.{verdict, reason_of}
 use Rattle.sfc.specs.session.Lent.{shape_wrong}
 use Rattle.sfc.specs.session.Marks.{is_held, held_count}
 use Rattle.sfc.specs.format.Chunk.{index_of, payload_of, chunk_checks}
-use Rattle.sfc.specs.answer.Places.{number, place}
+use Rattle.sfc.specs.answer.Places.{number, place, complete}
 use Rattle.sfc.specs.session.Tallies.{sum, total, tally_full}
 use Rattle.sfc.specs.session.Session.{Session, blank, mark, block_of, verdict_of, after}
 use Rattle.sfc.specs.inner.Steps.{Welcome}
@@ -34,10 +34,8 @@ use Rattle.sfc.specs.writing.Writer.{Input, size, blocks, data_of, payload, chun
 use Rattle.sfc.specs.demand.Demand2.{AllBelow, different, received, answers, GivenBack}
 use Rattle.sfc.specs.demand.Demand3.{Right, Fitting}
 use Rattle.sfc.specs.session.Right.{RightShape, RightLent}
-use Rattle.sfc.specs.declared.answer.reason.Checked.TheVariants.{Good}
 use Rattle.sfc.specs.declared.session.offer.Verdict.{Verdict}
 use Rattle.sfc.specs.declared.session.offer.Verdict.TheVariants.{Fresh, Repeat}
-use Rattle.sfc.specs.declared.give.release.HandedOut.TheVariants.{Complete, Refused as NotHandedOut}
 use Rattle.sfc.proofs.session.MarkLaws.{right_shape}
 use Rattle.sfc.proofs.session.SessionLaws.{right_lent, verdict-fresh, verdict_repeat}
 use Rattle.sfc.proofs.session.HistoryLaws.{after_tallies, total-counted, not_full}
@@ -50,6 +48,7 @@ use Rattle.sfc.proofs.demand.Demand3.{fitting_decoded, demand3}
 use Rattle.sfc.proofs.writing.LengthLaws.{length_data, length-payload}
 use Rattle.sfc.proofs.session.DifferentLaws.{held-different}
 use Rattle.sfc.proofs.writing.ChunkBack.{Made, index_back, payload-back, chunk_good}
+use Rattle.std.specs.Prelude.{Ok, Err}
 
 -- ---- the data blocks and the payloads
 
@@ -91,7 +90,7 @@ module _ (w : Input) (u : length w.uuid ≡ 16) (sh : shape_wrong (size w) (bloc
 
   -- a chunk of the file, with anything after it
   pub record ChunkOf (i : ℕ) (c : List ℕ) : Type 0 where
-    pub whole : verdict (chunk_checks (head_for w) c) ≡ Good
+    pub whole : verdict (chunk_checks (head_for w) c) ≡ Ok tt
     pub index : index_of c ≡ i
     pub brings : payload_of c ≡ payload w i
 
@@ -276,8 +275,8 @@ module _ (w : Input) (u : length w.uuid ≡ 16) (sh : shape_wrong (size w) (bloc
       -- what is given is the content, which has its own hash
       content_back : (y : Logged) (out : List ℕ)
           → releasing (head_for w) y out
-          ≡ cond (same (hash (take (size w) (data_of w))) (head_for w).hash) (releasing_of (Complete (place (size w))) 0 (zeros (w.m * w.s)) (put out 0 (take (size w) (data_of w))))
-          (releasing_of (NotHandedOut (reason_of 51)) 0 (zeros (w.m * w.s)) out)
+          ≡ cond (same (hash (take (size w) (data_of w))) (head_for w).hash) (releasing_of (Ok (complete (place (size w)))) 0 (zeros (w.m * w.s)) (put out 0 (take (size w) (data_of w))))
+          (releasing_of (Err (reason_of 51)) 0 (zeros (w.m * w.s)) out)
           → GivenBack w y out
       content_back y out e = e ∙ rw (content_first, same_laws.same_refl (hash w.content))
 

@@ -16,11 +16,11 @@ use Rattle.little.proofs.Laws.{part_laws, little_laws}
 use Rattle.blake3.specs.Tree.{hash}
 use Rattle.blake3.proofs.Laws.{hash_laws}
 use Rattle.little.specs.Runs.{zeros}
-use Rattle.sfc.specs.answer.Numbers.{Check, checked, verdict, number_of}
+use Rattle.sfc.specs.answer.Numbers.{Check, checked, verdict, number_of, Checked}
 use Rattle.sfc.specs.session.Lent.{shape_wrong, rebuilding_wrong}
 use Rattle.sfc.specs.format.Chunk.{chunk_magic, end_marker, index_of, type_of, payload_length, payload_of, chunk_length, type_for, chunk_checks, alone_checks}
 use Rattle.sfc.specs.format.Spot.{spot_for, refused_chunk, check_chunk}
-use Rattle.sfc.specs.answer.Places.{number, place}
+use Rattle.sfc.specs.answer.Places.{number, place, whole_at, broken}
 use Rattle.sfc.specs.session.Tallies.{tally_full}
 use Rattle.sfc.specs.session.Session.{Session, session_wrong, mark_checks, welcomed, verdict_of, settled, after, spot_of}
 use Rattle.sfc.specs.session.Offer.{logged, offer_verdict, logged_after, offered}
@@ -31,14 +31,14 @@ use Rattle.sfc.proofs.format.SpotLaws.{agreeing-front}
 use Rattle.sfc.proofs.session.BreakLaws.{Own, own_check, own_offer, offer_refused}
 use Rattle.sfc.proofs.session.KeptLaws.{offered-beside}
 use Rattle.sfc.proofs.format.HeaderParts.{read_seen}
+use Rattle.sfc.specs.declared.answer.places.BytePlace.{BytePlace}
 use Rattle.sfc.specs.declared.format.header.Head.{Head}
 use Rattle.sfc.specs.declared.answer.reason.Reason.{Reason}
-use Rattle.sfc.specs.declared.answer.reason.Checked.{Checked}
-use Rattle.sfc.specs.declared.answer.reason.Checked.TheVariants.{Good, Refused as Wrong}
-use Rattle.sfc.specs.declared.format.chunk.ChunkChecked.{ChunkChecked}
-use Rattle.sfc.specs.declared.format.chunk.ChunkChecked.TheVariants.{Whole, Refused as NoChunk}
 use Rattle.sfc.specs.declared.session.offer.Verdict.{Verdict}
 use Rattle.sfc.specs.declared.session.offer.Verdict.TheVariants.{Fresh, Repeat, Refused}
+use Rattle.sfc.specs.declared.format.chunk.BrokenChunk.{BrokenChunk}
+use Rattle.sfc.specs.declared.format.chunk.WholeChunk.{WholeChunk}
+use Rattle.std.specs.Prelude.{Result, Ok, Err, Option}
 
 -- ---- what lies inside c, with any bytes after c
 
@@ -108,20 +108,20 @@ module _ (c rest : List ℕ) (whole : chunk_length c ≤ length c) where
     same_place : (r : Reason) → (number_of r ≤ 40 → Own h c r) → spot_for h (c ++ rest) (number_of r) ≡ spot_for h c (number_of r)
     same_place r own = same_spot (number_of r) (λ q. number-held (λ (k : ℕ). k ≢ 30) (chunk_checks h c) r never_30 (own (omega (arith, q))).refuses q)
 
-    abbrev answer : List ℕ → List Check → ChunkChecked
-    answer b cs = checked cs (refused_chunk h b) (Whole (number (index_of b)) (place 48))
+    abbrev answer : List ℕ → List Check → Result WholeChunk BrokenChunk
+    answer b cs = checked cs (refused_chunk h b) (Ok (whole_at (number (index_of b)) (place 48)))
 
     same-checked : check_chunk h (c ++ rest) ≡ check_chunk h c
     unfolding check_chunk
     same-checked = go (verdict (alone_checks h c)) refl
       where
         go : (v : Checked) → verdict (alone_checks h c) ≡ v → answer (c ++ rest) (alone_checks h (c ++ rest)) ≡ answer c (alone_checks h c)
-        go Good e =
-            ap (answer (c ++ rest)) same_alone ∙ good_all (refused_chunk h (c ++ rest)) (alone_checks h c) (Whole (number (index_of (c ++ rest))) (place 48)) e
-            ∙ ap (λ (i : ℕ). Whole (number i) (place 48)) same_index ∙ sym (good_all (refused_chunk h c) (alone_checks h c) (Whole (number (index_of c)) (place 48)) e)
-        go (Wrong r) e =
-            ap (answer (c ++ rest)) same_alone ∙ refused_all (refused_chunk h (c ++ rest)) (alone_checks h c) (Whole (number (index_of (c ++ rest))) (place 48)) r e
-            ∙ ap (NoChunk r) (same_place r (own_check h c r e)) ∙ sym (refused_all (refused_chunk h c) (alone_checks h c) (Whole (number (index_of c)) (place 48)) r e)
+        go (Ok u) e =
+            ap (answer (c ++ rest)) same_alone ∙ good_all (refused_chunk h (c ++ rest)) (alone_checks h c) (Ok (whole_at (number (index_of (c ++ rest))) (place 48))) e
+            ∙ ap (λ (i : ℕ). Ok (whole_at (number i) (place 48))) same_index ∙ sym (good_all (refused_chunk h c) (alone_checks h c) (Ok (whole_at (number (index_of c)) (place 48))) e)
+        go (Err r) e =
+            ap (answer (c ++ rest)) same_alone ∙ refused_all (refused_chunk h (c ++ rest)) (alone_checks h c) (Ok (whole_at (number (index_of (c ++ rest))) (place 48))) r e
+            ∙ ap (λ (s : Option BytePlace). Err (broken r s)) (same_place r (own_check h c r e)) ∙ sym (refused_all (refused_chunk h c) (alone_checks h c) (Ok (whole_at (number (index_of c)) (place 48))) r e)
 
     module _ (x : Session) where
       same-verdict : verdict_of h x (c ++ rest) ≡ verdict_of h x c

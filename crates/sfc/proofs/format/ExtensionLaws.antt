@@ -1,33 +1,14 @@
 -- 21 by a walk over the fields: what is left to find wrong from a place on. Assumes nothing.
-use Prim.Native.Nat.{ℕ, ◌+◌, ◌-◌, ◌<◌, ◌≤◌}
+use Prim.Native.Nat.{ℕ, zero, suc}
 use mathlib.Core.Path.{◌≡◌, refl, sym, ap, ◌∙◌}
-use mathlib.Core.Bool.{Bool, true, false, ◌&&◌, ◌||◌}
-use mathlib.Core.List.{List, ◌∷◌}
+use mathlib.Core.Bool.{Bool, true, false, not, ◌&&◌, ◌||◌}
+use mathlib.Core.List.{List, [], ◌∷◌}
 use native.Mathlib.Omega.{arith}
-use borrow.Author.Tests.{lt-ltb}
-use lib.Dec.{ltb}
-use lib.ListN.{length, drop, length-drop, drop_of_length-le}
-use lib.Seq.{drop-drop}
-use Rattle.little.specs.Parts.{part}
-use Rattle.little.specs.Fields.{le}
+use borrow.Author.Tests.{eq-eqb, ne_eqb, le-ltb, lt-ltb}
+use lib.Dec.{ltb, eqb}
+use lib.ListN.{length}
 use Rattle.little.specs.Runs.{any}
-use Rattle.little.proofs.Laws.{part_laws}
-use Rattle.sfc.specs.format.Extension.{Field, field_at, next_field, fields_in, left_in, fields_of, left_of, rule_broken, field_wrong, is_known, has_tag, known_twice, extension_wrong}
-use Rattle.sfc.proofs.format.FieldWalk.{not-whole-front, not-whole_value, is_whole, none_there, value_long, next_inside, field-there, left_there}
-
--- ---- what `next_field` answers
-
-pub no_front : (e : List ℕ) → length e < 6 → 0 ≡ next_field e
-unfolding next_field
-no_front e h = rw (not-whole-front e h)
-
-pub no_value : (e : List ℕ) → 6 ≤ length e → length e - 6 < le e 2 4 → 0 ≡ next_field e
-unfolding next_field
-no_value e h k = rw (not-whole_value e h k)
-
-pub next_there : (e : List ℕ) → 6 ≤ length e → le e 2 4 ≤ length e - 6 → 6 + le e 2 4 ≡ next_field e
-unfolding next_field
-next_there e h k = rw (is_whole e h k)
+use Rattle.sfc.specs.format.Extension.{Field, fields_of, left_of, field_wrong, is_known, has_tag, known_twice, extension_wrong}
 
 -- ---- the loop's invariant, and each way on from it
 
@@ -55,44 +36,31 @@ module _ (blocks flags : ℕ) where
       regroup false false false false rest = refl
 
   module _ (e : List ℕ) where
-    -- what is left to find wrong from place `at` on is what is wrong with the whole
-    pub At : ℕ → Type 0
-    At at = (at ≤ length e) × (wrong (fields_of (drop at e)) (left_of (drop at e)) ≡ extension_wrong blocks flags e)
+    -- what is left to find wrong in what lies after the fields that came is what is wrong with the whole
+    pub Judging : List ℕ → Type 0
+    Judging rest = wrong (fields_of rest) (left_of rest) ≡ extension_wrong blocks flags e
 
-    pub at_start : At 0
-    unfolding At wrong extension_wrong
-    at_start = (omega arith, refl)
+    pub judging_start : (rest : List ℕ) → rest ≡ e → Judging rest
+    unfolding Judging wrong extension_wrong
+    judging_start rest q = rw q refl
 
-    pub at-end : (at : ℕ) → length e ≤ at → At at → false ≡ extension_wrong blocks flags e
-    unfolding At wrong fields_in left_in known_twice any
-    at-end at h i = rw (drop_of_length-le e {i = at} h) at i.1
+    -- no field is left: what lies there is wrong
+    pub judging_end : (rest last : List ℕ) → Judging rest → fields_of rest ≡ [] → left_of rest ≡ rest → last ≡ rest → not (eqb (length last) 0) ≡ extension_wrong blocks flags e
+    unfolding Judging wrong known_twice any
+    judging_end rest last w f l q = ap (λ (xs : List ℕ). not (eqb (length xs) 0)) q ∙ some_left (length rest) ∙ (rw (f, l) at w)
+      where
+        some_left : (n : ℕ) → not (eqb n 0) ≡ (ltb 0 n || false || false)
+        some_left zero = ap not (eq-eqb 0 0 refl) ∙ sym (ap (λ (b : Bool). b || false || false) (le-ltb 0 0 (omega arith)))
+        some_left (suc n) = ap not (ne_eqb (suc n) 0 (λ z. omega arith)) ∙ sym (ap (λ (b : Bool). b || false || false) (lt-ltb 0 (suc n) (omega arith)))
 
-    module _ (at : ℕ) (t : List ℕ) (next : ℕ) (inv : At at) (rest : t ≡ drop at e) (says : next ≡ next_field t) where
-      here : wrong (fields_of t) (left_of t) ≡ extension_wrong blocks flags e
-      unfolding At
-      here = rw rest inv.1
+    module _ (rest after : List ℕ) (f : Field) (w : Judging rest) (first : fields_of rest ≡ f ∷ fields_of after) (left : left_of rest ≡ left_of after) where
+      by_field : (field_wrong blocks flags f || (is_known f.tag && has_tag f.tag (fields_of after)) || wrong (fields_of after) (left_of after)) ≡ extension_wrong blocks flags e
+      unfolding Judging
+      by_field = sym (wrong_first f (fields_of after) (left_of after)) ∙ (rw (first, left) at w)
 
-      pub at_cut : at < length e → next ≡ 0 → true ≡ extension_wrong blocks flags e
-      unfolding wrong known_twice any
-      at_cut m z =
-          let n = none_there e t at next rest says z in
-          let l : 0 < length t = omega (arith, ap length rest, length-drop at e) in
-          rw (n.0, n.1, lt-ltb 0 (length t) l) at here
+      pub field_broken : (field_wrong blocks flags f || (is_known f.tag && has_tag f.tag (fields_of after))) ≡ true → true ≡ extension_wrong blocks flags e
+      field_broken b = rw b at by_field
 
-      -- `after` is what lies after the field
-      module _ (some : next ≡ 0 → ⊥) (after : List ℕ) (lies : after ≡ part t next (length t - next)) where
-        behind : after ≡ drop (at + next) e
-        behind = lies ∙ part_laws.part-rest t next ∙ ap (drop next) rest ∙ drop-drop next at e
-
-        by_field : (rule_broken blocks flags (le t 0 2) (next - 6) || (is_known (le t 0 2) && has_tag (le t 0 2) (fields_of after)) || wrong (fields_of after) (left_of after))
-            ≡ extension_wrong blocks flags e
-        by_field =
-            let w = rw (field-there e t at next rest says some, left_there e t at next rest says some, ← behind) at here in
-            (rw (value_long e t at next rest says some) at (sym (wrong_first (field_at t) (fields_of after) (left_of after)))) ∙ w
-
-        pub at_broken : (rule_broken blocks flags (le t 0 2) (next - 6) || (is_known (le t 0 2) && has_tag (le t 0 2) (fields_of after))) ≡ true → true ≡ extension_wrong blocks flags e
-        at_broken b = rw b at by_field
-
-        pub at_next : (rule_broken blocks flags (le t 0 2) (next - 6) || (is_known (le t 0 2) && has_tag (le t 0 2) (fields_of after))) ≡ false → At (at + next)
-        unfolding At
-        at_next b = ((next_inside e t at next rest says some).1, (rw (b, behind) at by_field))
+      pub field_good : (field_wrong blocks flags f || (is_known f.tag && has_tag f.tag (fields_of after))) ≡ false → Judging after
+      unfolding Judging
+      field_good b = rw b at by_field

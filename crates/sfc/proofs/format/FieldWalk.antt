@@ -1,4 +1,4 @@
--- The walk over extension fields (specs/format/FieldTheorems.antt), and a turn of a loop that takes it. Assumes nothing.
+-- The walk over extension fields (specs/format/FieldTheorems.antt), and what a step of the code's walk finds. Assumes nothing.
 use Prim.Native.Nat.{ℕ, zero, suc, ◌+◌, ◌-◌, ◌<◌, ◌≤◌}
 use mathlib.Core.Path.{◌≡◌, refl, sym, ap, ap₂, ◌∙◌}
 use mathlib.Core.Bool.{Bool, true, false, cond, ◌||◌}
@@ -6,12 +6,12 @@ use mathlib.Core.List.{List, [], ◌∷◌, ◌++◌, append_assoc, append-nil}
 use native.Mathlib.Omega.{arith}
 use borrow.Author.Tests.{le-leb, lt-leb, leb-true, ltb-false}
 use lib.Dec.{ltb, leb}
-use lib.ListN.{length, drop, length-drop, take-append-drop}
-use lib.Seq.{drop-drop, get_or-drop}
+use lib.ListN.{length, take, drop, length-drop, take-append-drop}
+use lib.Seq.{drop-drop, get_or-drop, length-take-le}
 use Rattle.little.specs.Parts.{part}
 use Rattle.little.specs.Fields.{Bytes, le, bytes_of}
 use Rattle.little.specs.Runs.{any}
-use Rattle.little.proofs.Laws.{part_laws, test_laws, little_laws}
+use Rattle.little.proofs.Laws.{part_laws, test_laws, little_laws, byte_laws}
 use Rattle.sfc.specs.format.Extension.{Field, field_bytes, joined_fields, field_at, whole_field, next_field, fields_in, left_in, fields_of, left_of, field_wrong, known_twice, extension_wrong}
 use Rattle.sfc.specs.format.FieldTheorems.{FieldWalk}
 
@@ -154,46 +154,74 @@ field_walk = record {
   joined_exactly = joined_exactly;
 }
 
--- ---- a turn of a loop over e that has come to place `at`: `next` is what `next_field` says of the bytes t from there on
+-- ---- what the code's step over the fields finds at the front of e, and the fields of e after it
 
-module _ (e t : List ℕ) (at next : ℕ) (rest : t ≡ drop at e) (says : next ≡ next_field t) where
-  not-whole : next ≡ 0 → whole_field t ≡ false
+module _ (e : List ℕ) where
+  pub short_front : length e < 6 → next_field e ≡ 0
   unfolding next_field
-  not-whole z = go (whole_field t) refl (sym says ∙ z)
+  short_front h = rw (not-whole-front e h)
+
+  -- the bytes before a value and behind them, and the length of the value
+  module _ (front behind : List ℕ) (long : ℕ) (inside : 6 ≤ length e) (first : front ≡ take 6 e) (others : behind ≡ drop 6 e) (says : long ≡ le front 2 4) where
+    length_field : long ≡ le e 2 4
+    length_field = says ∙ ap (λ (b : List ℕ). le b 2 4) first ∙ byte_laws.le-part 4 e 0 6 2 (omega arith)
+
+    behind_long : length behind ≡ length e - 6
+    behind_long = ap length others ∙ length-drop 6 e
+
+    pub short_value : length behind < long → next_field e ≡ 0
+    unfolding next_field
+    short_value h = rw (not-whole_value e inside (omega (arith, behind_long, length_field)))
+
+    pub field_given : (value after : List ℕ) (tag : ℕ) → long ≤ length behind → value ≡ take long behind → after ≡ drop long behind → tag ≡ le front 0 2
+        → (next_field e ≡ 6 + length value) × (field_at e ≡ record { tag = tag; value = value }) × (after ≡ drop (next_field e) e)
+    unfolding next_field
+    field_given value after tag room ev ea eq =
+        let n : cond (whole_field e) (6 + le e 2 4) 0 ≡ 6 + le e 2 4 =
+        ap (λ (b : Bool). cond b (6 + le e 2 4) 0) (is_whole e inside (omega (arith, behind_long, length_field))) in
+        let l : length value ≡ long = ap length ev ∙ length-take-le long behind room in
+        let t : le e 0 2 ≡ tag = sym (eq ∙ ap (λ (b : List ℕ). le b 0 2) first ∙ byte_laws.le-part 2 e 0 6 0 (omega arith)) in
+        let v : part e 6 (le e 2 4) ≡ value = sym (ev ∙ ap₂ (λ (k : ℕ) (b : List ℕ). take k b) length_field others) in (
+          omega (arith, n, l, length_field),
+          ap₂ (λ (k : ℕ) (b : List ℕ). record { tag = k; value = b }) t v,
+          ea ∙ ap₂ (λ (k : ℕ) (b : List ℕ). drop k b) length_field others ∙ drop-drop (le e 2 4) 6 e ∙ ap (λ (k : ℕ). drop k e) (sym n),
+        )
+
+  not-whole : next_field e ≡ 0 → whole_field e ≡ false
+  unfolding next_field
+  not-whole z = go (whole_field e) refl z
     where
-      go : (w : Bool) → whole_field t ≡ w → cond w (6 + le t 2 4) 0 ≡ 0 → whole_field t ≡ false
+      go : (w : Bool) → whole_field e ≡ w → cond w (6 + le e 2 4) 0 ≡ 0 → whole_field e ≡ false
       go true q f = absurd (omega arith)
       go false q f = q
 
   -- no field is there
-  pub none_there : next ≡ 0 → (fields_of t ≡ []) × (left_of t ≡ t)
-  none_there z = no_more t (not-whole z)
+  pub none_there : next_field e ≡ 0 → (fields_of e ≡ []) × (left_of e ≡ e)
+  none_there z = no_more e (not-whole z)
 
-  module _ (some : next ≡ 0 → ⊥) where
-    whole : (whole_field t ≡ true) × (next ≡ 6 + le t 2 4)
+  -- a field is there, with a value of so many bytes, and lies inside
+  module _ (long : ℕ) (next : next_field e ≡ 6 + long) where
+    whole : (whole_field e ≡ true) × (long ≡ le e 2 4)
     unfolding next_field
-    whole = go (whole_field t) refl says
+    whole = go (whole_field e) refl next
       where
-        go : (w : Bool) → whole_field t ≡ w → next ≡ cond w (6 + le t 2 4) 0 → (whole_field t ≡ true) × (next ≡ 6 + le t 2 4)
-        go true q f = (q, f)
-        go false q f = absurd (some f)
+        go : (w : Bool) → whole_field e ≡ w → cond w (6 + le e 2 4) 0 ≡ 6 + long → (whole_field e ≡ true) × (long ≡ le e 2 4)
+        go true q f = (q, omega (arith, f))
+        go false q f = absurd (omega (arith, f))
 
-    -- it has a value of that length, and lies inside
-    pub value_long : length (field_at t).value ≡ next - 6
-    value_long = part_laws.length_part t 6 (le t 2 4) (omega (arith, whole_long t whole.0)) ∙ (omega (arith, whole.1))
+    pub field_inside : 6 + long ≤ length e
+    field_inside = omega (arith, whole.1, whole_long e whole.0)
 
-    pub next_inside : (6 ≤ next) × (at + next ≤ length e)
-    next_inside = (omega (arith, whole.1), omega (arith, whole.1, whole_long t whole.0, ap length rest, length-drop at e))
+    module _ (after : List ℕ) (lies : after ≡ drop (next_field e) e) where
+      behind : drop (6 + le e 2 4) e ≡ after
+      behind = let n : 6 + le e 2 4 ≡ next_field e = omega (arith, next, whole.1) in ap (λ (k : ℕ). drop k e) n ∙ sym lies
 
-    pub next_within : next ≤ length t
-    next_within = omega (arith, whole.1, whole_long t whole.0)
+      -- it is the first, and the others are those after it
+      pub field-there : fields_of e ≡ field_at e ∷ fields_of after
+      field-there = one_more e whole.0 ∙ ap (λ (l : List ℕ). field_at e ∷ fields_of l) behind
 
-    after : drop (6 + le t 2 4) t ≡ drop (at + next) e
-    after = ap₂ (λ (k : ℕ) (l : List ℕ). drop k l) (sym whole.1) rest ∙ drop-drop next at e
+      pub left_there : left_of e ≡ left_of after
+      left_there = left_more e whole.0 ∙ ap (λ (l : List ℕ). left_of l) behind
 
-    -- it is the first, and the others are those after it
-    pub field-there : fields_of t ≡ field_at t ∷ fields_of (drop (at + next) e)
-    field-there = one_more t whole.0 ∙ ap (λ (l : List ℕ). field_at t ∷ fields_of l) after
-
-    pub left_there : left_of t ≡ left_of (drop (at + next) e)
-    left_there = left_more t whole.0 ∙ ap (λ (l : List ℕ). left_of l) after
+      pub after_long : length e ≡ 6 + long + length after
+      after_long = omega (arith, field_inside, next, ap length lies, length-drop (next_field e) e)

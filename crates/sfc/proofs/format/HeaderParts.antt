@@ -1,5 +1,6 @@
 -- An input that begins with preamble and region and ends with a trailer: which tests a header comes to on these two, whatever lies
 -- between. Assumes nothing.
+use Rattle.std.specs.Prelude.{Ok, Err}
 use Prim.Native.Nat.{ℕ, ◌+◌, ◌-◌}
 use mathlib.Core.Path.{◌≡◌, ap, ap₂, ◌∙◌}
 use mathlib.Core.Bool.{false, not, ◌||◌}
@@ -15,7 +16,7 @@ use Rattle.little.proofs.Laws.{part_laws}
 use Rattle.sfc.specs.format.Bytes.{stands_at}
 use Rattle.sfc.specs.answer.Numbers.{Check, checked}
 use Rattle.sfc.specs.format.Limits.{length_wrong}
-use Rattle.sfc.specs.format.Header.{magic, length_field, region_of, trailer_of, head_of, region_checks, trailer_checks, header_checks, refused_header, accepted_header, read_header}
+use Rattle.sfc.specs.format.Header.{magic, length_field, region_of, trailer_of, head_of, region_checks, trailer_checks, header_checks, read_header}
 use Rattle.sfc.proofs.format.PlaceLaws.{le-front, stands_front}
 
 module _ (a t : List ℕ) (a-long : length a ≡ length_field a + 12) (t-long : length t ≡ 64) where
@@ -63,7 +64,7 @@ module _ (a t : List ℕ) (a-long : length a ≡ length_field a + 12) (t-long : 
           le-front a (mid ++ t) 6 2 (omega arith),
         )
 
-    pub read_seen : read_header given ≡ checked seen refused_header (accepted_header (head_of (region_of a)))
+    pub read_seen : read_header given ≡ checked seen Err (Ok (head_of (region_of a)))
     unfolding read_header
     read_seen =
-        ap₂ (λ (cs : List Check) (r : List ℕ). checked cs refused_header (accepted_header (head_of r))) only_seen same-region
+        ap₂ (λ (cs : List Check) (r : List ℕ). checked cs Err (Ok (head_of r))) only_seen same-region

@@ -1,43 +1,37 @@
--- How many wanted bytes stand before the first that does not: a turn of the loop that counts them, the same with other bytes after,
--- and that the one found is the first that is another. Assumes nothing.
-use Prim.Native.Nat.{ℕ, zero, suc, ◌+◌, ◌-◌, ◌^◌, ◌<◌, ◌≤◌}
+-- How many wanted bytes stand before the first that does not: in the words of the library, the same with other bytes after, and that the one found is the first that is another. Assumes nothing.
+use Prim.Native.Nat.{ℕ, zero, suc, ◌+◌, ◌/◌, ◌^◌, ◌<◌, ◌≤◌}
 use mathlib.Core.Path.{◌≡◌, refl, sym, ap, ap₂, ◌∙◌}
 use mathlib.Core.Logic.{◌≢◌}
 use mathlib.Core.Bool.{Bool, true, false, cond, not, ◌&&◌, true≢false}
 use mathlib.Core.List.{List, [], ◌∷◌, ◌++◌}
 use native.Mathlib.Nat.{mod-eq_of_lt}
 use native.Mathlib.Omega.{arith}
-use borrow.Author.Tests.{eq-eqb, ne_eqb, eqb-true, eqb-false, not-true}
+use borrow.Author.Tests.{ne_eqb, eqb-true, eqb-false, not-true}
 use lib.Dec.{eqb}
-use lib.ListN.{length, get_or, drop, get_or-append}
-use lib.Seq.{drop-length}
-use Rattle.little.specs.Fields.{le, bytes_of, fits, put_le}
-use Rattle.little.specs.Runs.{zeros}
-use Rattle.little.proofs.Laws.{test_laws, part_laws, little_laws, byte_laws}
+use lib.ListN.{length, get_or, get_or-append}
+use Rattle.std.specs.Int.{to_le_bytes, w32}
+use Rattle.std.specs.List.{prefix_len, range_with_len, zip}
+use Rattle.little.specs.Fields.{le, bytes_of}
+use Rattle.little.proofs.Laws.{test_laws, little_laws, byte_laws}
 use Rattle.sfc.specs.format.Bytes.{stands_at}
 use Rattle.sfc.specs.format.Spot.{agreeing, first_other, spot_for}
+use Rattle.sfc.specs.answer.Numbers.{number_of, reason_of}
 use Rattle.sfc.specs.session.SpotTheorems.{FirstWrong}
 use Rattle.sfc.specs.declared.format.header.Head.{Head}
-use Rattle.sfc.specs.declared.answer.places.Spot.{Spot}
-use Rattle.sfc.specs.declared.answer.places.Spot.TheVariants.{Nowhere}
+use Rattle.sfc.specs.declared.answer.reason.Reason.{Reason}
+use Rattle.sfc.proofs.answer.Numbered.{reason_back}
+use Rattle.sfc.specs.declared.answer.places.BytePlace.{BytePlace}
+use Rattle.std.specs.Prelude.{Option, None}
 
--- ---- a turn of the loop, which goes from the last wanted byte to the first
-
-pub agreeing_start : (c : List ℕ) (at : ℕ) (wanted : List ℕ) → 0 ≡ agreeing c (at + length wanted) (drop (length wanted) wanted)
+-- the wanted bytes beside their places, as far as they stand
+pub agreeing-zip : (c : List ℕ) (at : ℕ) (wanted : List ℕ)
+    → prefix_len (λ (p : ℕ × ℕ). eqb (get_or c p.0 0) p.1) (zip (range_with_len at (length wanted)) wanted) ≡ agreeing c at wanted
 unfolding agreeing
-agreeing_start c at wanted = rw drop-length
-
-module _ (c wanted : List ℕ) (at i : ℕ) (some : 0 < i) (inside : i ≤ length wanted) where
-  pub agreeing_more : (n : ℕ) → get_or c (at + (i - 1)) 0 ≡ get_or wanted (i - 1) 0 → n ≡ agreeing c (at + i) (drop i wanted)
-      → n + 1 ≡ agreeing c (at + (i - 1)) (drop (i - 1) wanted)
-  unfolding agreeing
-  agreeing_more n s e =
-      let f : suc (at + (i - 1)) ≡ at + i = omega arith in
-      rw (part_laws.drop_down wanted i some inside, f, eq-eqb (get_or c (at + (i - 1)) 0) (get_or wanted (i - 1) 0) s, ← e) (omega arith)
-
-  pub agreeing_ends : (get_or c (at + (i - 1)) 0 ≡ get_or wanted (i - 1) 0 → ⊥) → 0 ≡ agreeing c (at + (i - 1)) (drop (i - 1) wanted)
-  unfolding agreeing
-  agreeing_ends d = rw (part_laws.drop_down wanted i some inside, ne_eqb (get_or c (at + (i - 1)) 0) (get_or wanted (i - 1) 0) d)
+agreeing-zip c at [] = refl
+agreeing-zip c at (y ∷ wanted) =
+    let e : at + 1 ≡ suc at = omega arith in
+    let f : 1 + agreeing c (suc at) wanted ≡ suc (agreeing c (suc at) wanted) = omega arith in
+    rw (e, agreeing-zip c (suc at) wanted, f)
 
 pub agreeing_short : (c : List ℕ) (at : ℕ) (wanted : List ℕ) → agreeing c at wanted ≤ length wanted
 unfolding agreeing
@@ -127,18 +121,25 @@ number_apart width c at v small n = go (stands_at c at (bytes_of width v)) refl
 
 -- ---- what the code's needs ask
 
--- a number stored over four zeros
-pub four-stored : (v : ℕ) → put_le (zeros 4) 0 4 v ≡ bytes_of 4 v
-unfolding put_le fits bytes_of
-four-stored v = refl
+-- the four bytes of a number, as std gives them
+pub four_bytes : (v : ℕ) → to_le_bytes w32 v ≡ bytes_of 4 v
+unfolding bytes_of
+four_bytes v =
+    let e : v / 65536 ≡ v / 256 / 256 = omega arith in
+    let e' : v / 16777216 ≡ v / 256 / 256 / 256 = omega arith in
+    rw (e, e')
 
 -- the place of a row, by the number that the code matched
-pub by_row : (h : Head) (c : List ℕ) (p : Spot) (k n j : ℕ) → p ≡ spot_for h c j → n ≡ k → n ≡ j → p ≡ spot_for h c k
-by_row h c p k n j e f g = e ∙ ap (spot_for h c) (sym g ∙ f)
+pub by_row : (h : Head) (c : List ℕ) (p : Option BytePlace) (r : Reason) (k : ℕ) → p ≡ spot_for h c k → number_of r ≡ k → p ≡ spot_for h c (number_of r)
+by_row h c p r k e f = e ∙ ap (spot_for h c) (sym f)
+
+-- a reason is another than that of a number, so it has not that number
+pub not_row : (r : Reason) (k : ℕ) → r ≢ reason_of k → number_of r ≢ k
+not_row r k n e = n (sym (reason_back r) ∙ ap reason_of e)
 
 -- no other number has a row
 pub no_row : (h : Head) (c : List ℕ) (k : ℕ) → k ≢ 30 → k ≢ 31 → k ≢ 32 → k ≢ 33 → k ≢ 34 → k ≢ 35 → k ≢ 36 → k ≢ 37 → k ≢ 38 → k ≢ 39 → k ≢ 40 → k ≢ 41
-    → k ≢ 42 → Nowhere ≡ spot_for h c k
+    → k ≢ 42 → None ≡ spot_for h c k
 unfolding spot_for
 no_row h c k n30 n31 n32 n33 n34 n35 n36 n37 n38 n39 n40 n41 n42 =
     rw (ne_eqb k 30 n30, ne_eqb k 31 n31, ne_eqb k 32 n32, ne_eqb k 33 n33, ne_eqb k 34 n34, ne_eqb k 35 n35, ne_eqb k 36 n36, ne_eqb k 37 n37, ne_eqb k 38 n38, ne_eqb k 39 n39, ne_eqb k 40 n40, ne_eqb k 41 n41, ne_eqb k 42 n42)

@@ -1,55 +1,25 @@
 -- The walks that look for a tag within bounds and for a tag that falls: what is left to find from a place on. Assumes nothing.
-use Prim.Native.Nat.{ℕ, ◌+◌, ◌<◌, ◌≤◌}
-use mathlib.Core.Path.{◌≡◌, refl, sym, ap₂, ◌∙◌}
+use Prim.Native.Nat.{ℕ, ◌<◌, ◌≤◌}
+use mathlib.Core.Path.{◌≡◌, refl, sym, ap, ap₂, ◌∙◌}
 use mathlib.Core.Bool.{Bool, true, false, not, ◌&&◌, ◌||◌}
 use mathlib.Core.List.{List, [], ◌∷◌, map}
 use mathlib.Core.Logic.{⊎_elim}
 use native.Mathlib.Omega.{arith}
 use borrow.Author.Tests.{le-leb, lt-leb, eq-eqb, ne_eqb, le-ltb, lt-ltb}
 use lib.Dec.{leb, ltb, eqb}
-use lib.ListN.{length, drop, drop_of_length-le}
-use Rattle.little.specs.Fields.{le}
 use Rattle.little.specs.Runs.{any}
+use Rattle.std.specs.List.{list_any}
 use Rattle.little.proofs.Laws.{test_laws}
-use Rattle.sfc.specs.format.Extension.{Field, field_at, next_field, fields_in, fields_of, is_known, tag_within, has_tag}
+use Rattle.sfc.specs.format.Extension.{Field, fields_of, is_known, tag_within, has_tag}
 use Rattle.sfc.specs.writing.Writer.{rises_weakly, tags_fall}
-use Rattle.sfc.proofs.format.FieldWalk.{none_there, next_inside, field-there}
 
 -- ---- a tag from low to high
 
-module _ (low high : ℕ) (e : List ℕ) where
-  -- what is to be found from place `at` on is what is to be found at all
-  pub Searching : ℕ → Type 0
-  Searching at = (at ≤ length e) × (any (tag_within low high) (fields_of (drop at e)) ≡ any (tag_within low high) (fields_of e))
-
-  pub searching_start : Searching 0
-  unfolding Searching
-  searching_start = (omega arith, refl)
-
-  pub searching_end : (at : ℕ) → length e ≤ at → Searching at → false ≡ any (tag_within low high) (fields_of e)
-  unfolding Searching fields_in any
-  searching_end at h w = rw (drop_of_length-le e {i = at} h) at w.1
-
-  module _ (at : ℕ) (t : List ℕ) (next : ℕ) (w : Searching at) (rest : t ≡ drop at e) (says : next ≡ next_field t) where
-    here : any (tag_within low high) (fields_of t) ≡ any (tag_within low high) (fields_of e)
-    unfolding Searching
-    here = rw rest w.1
-
-    pub none_left : next ≡ 0 → false ≡ any (tag_within low high) (fields_of e)
-    unfolding any
-    none_left z = rw (none_there e t at next rest says z).0 at here
-
-    module _ (some : next ≡ 0 → ⊥) where
-      by_field : (tag_within low high (field_at t) || any (tag_within low high) (fields_of (drop (at + next) e))) ≡ any (tag_within low high) (fields_of e)
-      unfolding any
-      by_field = rw (field-there e t at next rest says some) at here
-
-      pub tag_found : (leb low (le t 0 2) && leb (le t 0 2) high) ≡ true → true ≡ any (tag_within low high) (fields_of e)
-      tag_found q = rw q at by_field
-
-      pub not_found_here : (leb low (le t 0 2) && leb (le t 0 2) high) ≡ false → Searching (at + next)
-      unfolding Searching
-      not_found_here q = ((next_inside e t at next rest says some).1, (rw q at by_field))
+-- the library's test of some element
+pub some_element : {A : Type 0} (p : A → Bool) (xs : List A) → list_any p xs ≡ any p xs
+unfolding any
+some_element p [] = refl
+some_element p (x ∷ xs) = ap (λ (t : Bool). p x || t) (some_element p xs)
 
 -- one tag is the case of equal bounds
 within_one : (tag x : ℕ) → (leb tag x && leb x tag) ≡ eqb x tag
@@ -83,34 +53,26 @@ falls_first least f fs =
     (λ (h : least ≤ f.tag). rw (le-leb least f.tag h, le-ltb f.tag least h)) (test_laws.below_or f.tag least)
 
 module _ (e : List ℕ) where
-  -- the tags from place `at` on fall below `least`, or below one another, exactly if those of the whole fall
-  pub Climbing : ℕ → ℕ → Type 0
-  Climbing least at = (at ≤ length e) × (falls least (fields_of (drop at e)) ≡ tags_fall e)
+  -- the tags still to come fall below `least`, or below one another, exactly if those of the whole fall
+  pub Climbing : ℕ → List Field → Type 0
+  Climbing least fs = falls least fs ≡ tags_fall e
 
-  pub climbing_start : Climbing 0 0
+  pub climbing_start : (fs : List Field) → fs ≡ fields_of e → Climbing 0 fs
   unfolding Climbing falls tags_fall
-  climbing_start = (omega arith, refl)
+  climbing_start fs q = rw q refl
 
-  pub climbing_end : (least at : ℕ) → length e ≤ at → Climbing least at → false ≡ tags_fall e
-  unfolding Climbing falls fields_in rises_weakly
-  climbing_end least at h w = rw (drop_of_length-le e {i = at} h) at w.1
+  pub climbing_end : (least : ℕ) (fs : List Field) → fs ≡ [] → Climbing least fs → false ≡ tags_fall e
+  unfolding Climbing falls rises_weakly
+  climbing_end least fs q w = rw q at w
 
-  module _ (least at : ℕ) (t : List ℕ) (next : ℕ) (w : Climbing least at) (rest : t ≡ drop at e) (says : next ≡ next_field t) where
-    there : falls least (fields_of t) ≡ tags_fall e
+  module _ (least : ℕ) (f : Field) (fs rest : List Field) (w : Climbing least fs) (first : fs ≡ f ∷ rest) where
+    by_first : (ltb f.tag least || falls f.tag rest) ≡ tags_fall e
     unfolding Climbing
-    there = rw rest w.1
+    by_first = sym (falls_first least f rest) ∙ (rw first at w)
 
-    pub no_fall_left : next ≡ 0 → false ≡ tags_fall e
-    unfolding falls rises_weakly
-    no_fall_left z = rw (none_there e t at next rest says z).0 at there
+    pub fall_here : f.tag < least → true ≡ tags_fall e
+    fall_here h = rw (lt-ltb f.tag least h) at by_first
 
-    module _ (some : next ≡ 0 → ⊥) where
-      by_first : (ltb (le t 0 2) least || falls (le t 0 2) (fields_of (drop (at + next) e))) ≡ tags_fall e
-      by_first = sym (falls_first least (field_at t) (fields_of (drop (at + next) e))) ∙ (rw (field-there e t at next rest says some) at there)
-
-      pub fall_here : le t 0 2 < least → true ≡ tags_fall e
-      fall_here h = rw (lt-ltb (le t 0 2) least h) at by_first
-
-      pub no_fall_here : least ≤ le t 0 2 → Climbing (le t 0 2) (at + next)
-      unfolding Climbing
-      no_fall_here h = ((next_inside e t at next rest says some).1, (rw (le-ltb (le t 0 2) least h) at by_first))
+    pub no_fall_here : least ≤ f.tag → Climbing f.tag rest
+    unfolding Climbing
+    no_fall_here h = rw (le-ltb f.tag least h) at by_first

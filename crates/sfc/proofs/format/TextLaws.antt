@@ -1,45 +1,33 @@
--- A turn of the loops that compare bytes at a place and measure a name, and what a name without a zero byte is. Assumes nothing.
-use Prim.Native.Nat.{ℕ, zero, suc, ◌+◌, ◌-◌, ◌<◌, ◌≤◌}
+-- What comparing bytes at a place and measuring a name compute, in the words of the library, and what a name without a zero byte is. Assumes nothing.
+use Prim.Native.Nat.{ℕ, zero, suc, ◌+◌, ◌≤◌}
 use mathlib.Core.Path.{◌≡◌, refl, sym, ap, ◌∙◌}
-use mathlib.Core.Bool.{Bool, true, false, ◌&&◌, ◌||◌}
+use mathlib.Core.Bool.{Bool, false, not, ◌&&◌, ◌||◌}
 use mathlib.Core.List.{List, [], ◌∷◌}
 use native.Mathlib.Omega.{arith}
 use borrow.Author.Tests.{lt-ltb, ne_eqb}
 use lib.Dec.{ltb, eqb}
-use lib.ListN.{length, get_or, drop}
-use lib.Seq.{drop-length}
+use lib.ListN.{length, get_or}
+use Rattle.std.specs.List.{list_all, prefix_len, range_with_len, zip}
 use Rattle.little.specs.Runs.{any}
-use Rattle.little.proofs.Laws.{test_laws, part_laws}
+use Rattle.little.proofs.Laws.{test_laws}
 use Rattle.sfc.specs.format.Bytes.{stands_at, before_zero}
 use Rattle.sfc.specs.writing.Writer.{name_wrong}
 
-pub stands_start : (s : List ℕ) (at : ℕ) (wanted : List ℕ) → true ≡ stands_at s (at + length wanted) (drop (length wanted) wanted)
+-- the wanted bytes beside their places, each compared
+pub stands-zip : (s : List ℕ) (at : ℕ) (wanted : List ℕ)
+    → list_all (λ (p : ℕ × ℕ). eqb (get_or s p.0 0) p.1) (zip (range_with_len at (length wanted)) wanted) ≡ stands_at s at wanted
 unfolding stands_at
-stands_start s at wanted = rw drop-length
+stands-zip s at [] = refl
+stands-zip s at (y ∷ wanted) =
+    let e : at + 1 ≡ suc at = omega arith in
+    ap (λ (t : Bool). eqb (get_or s at 0) y && t) (rw e (stands-zip s (suc at) wanted))
 
-pub stands_turn : (s wanted : List ℕ) (at i : ℕ) (same : Bool) → 0 < i → i ≤ length wanted → same ≡ stands_at s (at + i) (drop i wanted)
-    → (eqb (get_or s (at + (i - 1)) 0) (get_or wanted (i - 1) 0) && same) ≡ stands_at s (at + (i - 1)) (drop (i - 1) wanted)
-unfolding stands_at
-stands_turn s wanted at i same h k e =
-    let f : suc (at + (i - 1)) ≡ at + i = omega arith in
-    rw (part_laws.drop_down wanted i h k, f, e)
-
-name_front : (x : ℕ) (xs : List ℕ) → (x ≡ 0 → ⊥) → length (before_zero (x ∷ xs)) ≡ length (before_zero xs) + 1
+-- a name is the longest front without a zero
+pub name-front : (xs : List ℕ) → prefix_len (λ x. not (eqb x 0)) xs ≡ length (before_zero xs)
 unfolding before_zero
-name_front zero xs h = absurd (h refl)
-name_front (suc x) xs h = omega arith
-
-pub name_start : (xs : List ℕ) → 0 ≡ length (before_zero (drop (length xs) xs))
-unfolding before_zero
-name_start xs = rw drop-length
-
-pub name_ends : (xs : List ℕ) (i : ℕ) → 0 < i → i ≤ length xs → get_or xs (i - 1) 0 ≡ 0 → 0 ≡ length (before_zero (drop (i - 1) xs))
-unfolding before_zero
-name_ends xs i h k e = rw (part_laws.drop_down xs i h k, e)
-
-pub name_more : (xs : List ℕ) (i n : ℕ) → 0 < i → i ≤ length xs → (get_or xs (i - 1) 0 ≡ 0 → ⊥) → n ≡ length (before_zero (drop i xs))
-    → n + 1 ≡ length (before_zero (drop (i - 1) xs))
-name_more xs i n h k d e = rw (part_laws.drop_down xs i h k) (ap (λ (m : ℕ). m + 1) e ∙ sym (name_front (get_or xs (i - 1) 0) (drop i xs) d))
+name-front [] = refl
+name-front (zero ∷ xs) = refl
+name-front (suc x ∷ xs) = rw (ne_eqb (suc x) 0 (λ z. omega arith)) (omega (arith, name-front xs))
 
 -- a name is no longer than its field
 pub name_fits : (xs : List ℕ) → length (before_zero xs) ≤ length xs

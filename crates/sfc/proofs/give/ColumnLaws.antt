@@ -17,8 +17,8 @@ use Rattle.blake3.specs.Tree.{hash}
 use Rattle.cauchy.specs.Decode.{missing_data, decode, decoded}
 use Rattle.cauchy.specs.Calls.{rebuilt_scratch}
 use Rattle.cauchy.proofs.Laws.{code_laws, scratch_laws}
-use Rattle.sfc.specs.answer.Numbers.{verdict, passes}
-use Rattle.sfc.specs.answer.Places.{place}
+use Rattle.sfc.specs.answer.Numbers.{verdict, passes, Checked}
+use Rattle.sfc.specs.answer.Places.{place, complete}
 use Rattle.sfc.specs.session.Marks.{held_count}
 use Rattle.sfc.specs.session.Lent.{lent_wrong, rebuilding_wrong, columns_wrong}
 use Rattle.sfc.specs.session.Session.{Session, settled, after_verdict}
@@ -31,33 +31,30 @@ use Rattle.sfc.specs.give.TurnTheorems.{HandsOutAs}
 use Rattle.sfc.specs.declared.format.header.Head.{Head}
 use Rattle.sfc.specs.declared.answer.reason.Reason.{Reason}
 use Rattle.sfc.specs.declared.answer.reason.Reason.TheVariants.{ContentHash}
-use Rattle.sfc.specs.declared.answer.reason.Checked.{Checked}
-use Rattle.sfc.specs.declared.answer.reason.Checked.TheVariants.{Good, Refused as Wrong}
 use Rattle.sfc.specs.declared.session.offer.Verdict.{Verdict}
 use Rattle.sfc.specs.declared.session.offer.Verdict.TheVariants.{Fresh, Repeat, Refused}
-use Rattle.sfc.specs.declared.give.turn.Turned.TheVariants.{Refused as NoTurn}
-use Rattle.sfc.specs.declared.give.release.HandedOut.TheVariants.{Complete, Refused as NotHandedOut}
 use Rattle.sfc.proofs.answer.CheckLaws.{good_all, refused_all, passed}
 use Rattle.sfc.proofs.session.SessionLaws.{right_lent}
 use Rattle.sfc.proofs.session.KeptLaws.{RightBeside, beside_right, by_verdict, anew, goes_on}
 use Rattle.sfc.proofs.give.GatherLaws.{piece_restored}
 use Rattle.sfc.proofs.give.TurnLaws.{left_some, left_most}
 use Rattle.sfc.proofs.give.ReleaseLaws.{gatherable}
+use Rattle.std.specs.Prelude.{Ok, Err}
 
 -- ---- a turn, by what its checks come to
 
 module _ (h : Head) (store marks scratch numbers : List ℕ) (f b : ℕ) where
-  pub turn_good : verdict (turn_checks h store marks scratch numbers f) ≡ Good
+  pub turn_good : verdict (turn_checks h store marks scratch numbers f) ≡ Ok tt
       → turn h store marks scratch numbers f b ≡ turn_done h store marks scratch f (turn_count h marks f b)
   unfolding turn
   turn_good e =
-      good_all (λ (r : Reason). turning_of (NoTurn r) f scratch numbers) (turn_checks h store marks scratch numbers f) (turn_done h store marks scratch f (turn_count h marks f b)) e
+      good_all (λ (r : Reason). turning_of (Err r) f scratch numbers) (turn_checks h store marks scratch numbers f) (turn_done h store marks scratch f (turn_count h marks f b)) e
 
-  pub turn-not : (r : Reason) → verdict (turn_checks h store marks scratch numbers f) ≡ Wrong r
-      → turn h store marks scratch numbers f b ≡ turning_of (NoTurn r) f scratch numbers
+  pub turn-not : (r : Reason) → verdict (turn_checks h store marks scratch numbers f) ≡ Err r
+      → turn h store marks scratch numbers f b ≡ turning_of (Err r) f scratch numbers
   unfolding turn
   turn-not r e =
-      refused_all (λ (q : Reason). turning_of (NoTurn q) f scratch numbers) (turn_checks h store marks scratch numbers f) (turn_done h store marks scratch f (turn_count h marks f b)) r e
+      refused_all (λ (q : Reason). turning_of (Err q) f scratch numbers) (turn_checks h store marks scratch numbers f) (turn_done h store marks scratch f (turn_count h marks f b)) r e
 
 -- past its checks
 pub record Past (h : Head) (store marks scratch numbers : List ℕ) (f : ℕ) : Type 0 where
@@ -65,7 +62,7 @@ pub record Past (h : Head) (store marks scratch numbers : List ℕ) (f : ℕ) : 
   pub long : length numbers ≡ 1024
   pub enough : h.n ≤ held_count marks
 
-pub turn_past : (h : Head) (store marks scratch numbers : List ℕ) (f : ℕ) → verdict (turn_checks h store marks scratch numbers f) ≡ Good
+pub turn_past : (h : Head) (store marks scratch numbers : List ℕ) (f : ℕ) → verdict (turn_checks h store marks scratch numbers f) ≡ Ok tt
     → Past h store marks scratch numbers f
 turn_past h store marks scratch numbers f e =
     let p = passed (turn_checks h store marks scratch numbers f) e in
@@ -139,10 +136,10 @@ module _ (h : Head) (base : List ℕ) (y : Logged) (k : Made h base y) where
       count = turn_count h marks y.finished b
 
       go : (v : Checked) → verdict (turn_checks h store marks y.scratch numbers y.finished) ≡ v → Made h base (logged y.session z.scratch z.finished)
-      go (Wrong r) e =
+      go (Err r) e =
           let t = turn-not h store marks y.scratch numbers y.finished b r e in
           made-same h base y (logged y.session z.scratch z.finished) refl refl (ap (λ (q : Turning). q.scratch) t) (ap (λ (q : Turning). q.finished) t) k
-      go Good e =
+      go (Ok tt) e =
           let t = turn_good h store marks y.scratch numbers y.finished b e in
           let p = turn_past h store marks y.scratch numbers y.finished e in
           let ef : z.finished ≡ y.finished + count = ap (λ (q : Turning). q.finished) t in
@@ -289,8 +286,8 @@ module _ (h : Head) (base : List ℕ) (y : Logged) (k : Made h base y) (out : Li
   pub made_released : lent_wrong h.size h.n h.m h.s y.session.store y.session.marks ≡ false → h.n ≤ held_count y.session.marks
       → h.size ≤ length out → (d : List ℕ) → content_of h y.session.store y.session.marks ≡ d
       → releasing h y out
-      ≡ cond (same (hash d) h.hash) (releasing_of (Complete (place h.size)) 0 (zeros (h.m * h.s)) (put out 0 d))
-      (releasing_of (NotHandedOut ContentHash) 0 (zeros (h.m * h.s)) out)
+      ≡ cond (same (hash d) h.hash) (releasing_of (Ok (complete (place h.size))) 0 (zeros (h.m * h.s)) (put out 0 d))
+      (releasing_of (Err ContentHash) 0 (zeros (h.m * h.s)) out)
   unfolding release
   made_released e v o d c =
       let w = columns_right h.size h.n h.m h.s y.session.store y.session.marks y.scratch y.finished e (made-beside h base y k) in
@@ -301,11 +298,11 @@ module _ (h : Head) (base : List ℕ) (y : Logged) (k : Made h base y) (out : Li
     where
       go : (b : Bool) → ◌≡◌ {A = Releasing}
           (record {
-            answer = cond (not b) (NotHandedOut ContentHash) (Complete (place h.size));
+            answer = cond (not b) (Err ContentHash) (Ok (complete (place h.size)));
             finished = 0;
             scratch = zeros (h.m * h.s);
             output = cond (not b) out (put out 0 d);
           })
-          (cond b (releasing_of (Complete (place h.size)) 0 (zeros (h.m * h.s)) (put out 0 d)) (releasing_of (NotHandedOut ContentHash) 0 (zeros (h.m * h.s)) out))
+          (cond b (releasing_of (Ok (complete (place h.size))) 0 (zeros (h.m * h.s)) (put out 0 d)) (releasing_of (Err ContentHash) 0 (zeros (h.m * h.s)) out))
       go true = refl
       go false = refl

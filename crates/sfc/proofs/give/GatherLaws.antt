@@ -11,12 +11,12 @@ use native.Mathlib.Decide.{ℕ_discrete}
 use borrow.Author.Tests.{eq-eqb, ne_eqb}
 use lib.ListN.{length, get_or, take, drop}
 use lib.Seq.{take_all, take-take, get_or-take, length-take-le}
+use Rattle.std.specs.Prelude.{Ok}
 use Rattle.little.specs.Parts.{part, put, block}
 use Rattle.little.proofs.Laws.{test_laws, put_laws, part_laws, block_laws}
 use Rattle.blake3.specs.Tree.{hash}
 use Rattle.blake3.specs.Running.{with_bytes, fresh, finished}
 use Rattle.blake3.specs.declared.running.Running.{Running}
-use Rattle.blake3.specs.declared.running.Finished.{Finished}
 use Rattle.blake3.proofs.Laws.{feed_laws}
 use Rattle.cauchy.specs.Code.{joined}
 use Rattle.cauchy.specs.Decode.{held, missing, missing_data, rank, decode}
@@ -24,11 +24,6 @@ use Rattle.cauchy.proofs.Laws.{missing_laws}
 use Rattle.sfc.proofs.session.HeldLaws.{decode-held}
 use Rattle.sfc.specs.give.Turns.{piece_of, joined_bytes}
 use Rattle.sfc.specs.inner.Gather.{Restored, Gatherable, Cut}
-
--- the case comes first, so that each branch knows what it is given
-pub in_case : {A B C : Type 0} → A ⊎ B → (A → C) → (B → C) → C
-in_case (inl a) f g = f a
-in_case (inr b) f g = g b
 
 -- ---- how many blocks before block j are missing
 
@@ -262,13 +257,12 @@ unfolding joined_bytes
 joined_most size n s store marks scratch = length-take_most size (joined (λ j. piece_of s store marks scratch j) 0 n)
 
 pub feeding_end : (size n s : ℕ) (marks store scratch : List ℕ) (state : Running) (row j : ℕ) → n ≤ j → size ≤ 2 ^ 32 → Feeding size n s marks store scratch state row j
-    → (finished state).hash ≡ hash (joined_bytes size n s store marks scratch)
+    → finished state ≡ Ok (hash (joined_bytes size n s store marks scratch))
 unfolding with_bytes
 feeding_end size n s marks store scratch state row j h small f =
     let z : state ≡ with_bytes fresh (joined_bytes size n s store marks scratch)
     = ap (with_bytes state) (sym (rest_none size n s marks store scratch j h)) ∙ f.all ∙ ap (with_bytes fresh) (rest_all size n s marks store scratch) in
-    ap (λ (r : Running). (finished r).hash) z
-    ∙ ap (λ (r : Finished). r.hash) ((feed_laws.fed_bytes (joined_bytes size n s store marks scratch)).ends (omega (arith, joined_most size n s store marks scratch)))
+    ap (λ (r : Running). finished r) z ∙ (feed_laws.fed_bytes (joined_bytes size n s store marks scratch)).ends (omega (arith, joined_most size n s store marks scratch))
 
 -- ---- copying: what is still to be copied, put into the output, gives the promised one
 
@@ -312,10 +306,12 @@ pub copying_next : (size n s : ℕ) (marks store scratch : List ℕ) (w : Cut si
     (out₀ out : List ℕ) (row : ℕ) → j * s + count ≤ length out → Copying size n s marks store scratch out₀ out row j
     → (src : List ℕ) → length src ≡ count → src ≡ take count (piece_of s store marks scratch j)
     → (ys out' : List ℕ) → out' ≡ take (j * s) out ++ (ys ++ drop (j * s + count - j * s) (drop (j * s) out))
-    → ys ≡ take (length src) src ++ drop (length src) (part out (j * s) (j * s + count - j * s))
-    → (row' : ℕ) → row' ≡ rank (j + 1) marks → row' ≤ j + 1 → Copying size n s marks store scratch out₀ out' row' (j + 1)
+    → ys ≡ src → (row' : ℕ) → row' ≡ rank (j + 1) marks → row' ≤ j + 1 → Copying size n s marks store scratch out₀ out' row' (j + 1)
 copying_next size n s marks store scratch w j h count least out₀ out row fits f src ls es ys out' eo ey row' r b =
-    let e : out' ≡ put out (j * s) (take count (piece_of s store marks scratch j)) = eo ∙ put_laws.copied_in out src ys (j * s) count fits ls ey ∙ ap (put out (j * s)) es in
+    let long_is : length src ≡ j * s + count - j * s = omega (arith, ls) in
+    let e : out' ≡ put out (j * s) (take count (piece_of s store marks scratch j)) =
+    eo ∙ ap (λ (y : List ℕ). take (j * s) out ++ (y ++ drop (j * s + count - j * s) (drop (j * s) out))) ey ∙ put_laws.lent out src (j * s) (j * s + count - j * s) long_is
+    ∙ ap (put out (j * s)) es in
     rw e
     (copying_put size n s marks store scratch out₀ out row j (take count (piece_of s store marks scratch j))
     (in_out size n s marks store scratch w j h count least out fits) h (next_place size n s marks store scratch w j h count least) (next_from size n s marks store scratch w j h count least) f row' r b)

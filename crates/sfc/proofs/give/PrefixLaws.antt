@@ -1,16 +1,16 @@
--- What the prefix's proofs cite: a turn of its count, and its three answers. Assumes nothing.
-use Prim.Native.Nat.{ℕ, suc, ◌+◌, ◌-◌, ◌*◌, ◌<◌, ◌≤◌}
-use mathlib.Core.Path.{◌≡◌, sym, ap, ap₂, ◌∙◌}
+-- What the prefix's proofs cite: its count in the words of the library, and its three answers. Assumes nothing.
+use Prim.Native.Nat.{ℕ, suc, ◌+◌, ◌*◌, ◌<◌, ◌≤◌}
+use mathlib.Core.Path.{◌≡◌, refl, sym, ap, ap₂, ◌∙◌}
 use mathlib.Core.Bool.{Bool, true, false, cond}
 use mathlib.Core.List.{List, [], ◌∷◌, ◌++◌}
 use mathlib.Core.Logic.{◌⊎◌, ⊎_elim}
 use native.Mathlib.Omega.{arith}
 use native.Mathlib.Nat.{mul-le-mul_right}
-use borrow.Author.Tests.{eq-eqb, ne_eqb, lt-ltb, le-ltb}
-use lib.ListN.{length, get_or, take, drop}
-use lib.Seq.{drop-length, length-take-le, take-take, take_all}
-use Rattle.little.proofs.Laws.{part_laws}
-use Rattle.sfc.specs.answer.Places.{number, place}
+use borrow.Author.Tests.{lt-ltb, le-ltb}
+use lib.ListN.{length, take, drop}
+use lib.Seq.{length-take-le, take-take, take_all}
+use Rattle.std.specs.List.{prefix_len}
+use Rattle.sfc.specs.answer.Places.{number, place, unverified_prefix}
 use Rattle.little.specs.Parts.{put}
 use Rattle.sfc.specs.answer.Numbers.{Answered}
 use Rattle.sfc.specs.session.Marks.{is_held}
@@ -19,21 +19,16 @@ use Rattle.sfc.specs.give.Prefix.{leading, prefix_blocks, prefix_of, prefix_give
 use Rattle.sfc.specs.session.Right.{RightLent}
 use Rattle.sfc.specs.declared.format.header.Head.{Head}
 use Rattle.sfc.specs.declared.answer.reason.Reason.TheVariants.{Lent, OutputShort}
-use Rattle.sfc.specs.declared.give.prefix.PrefixGiven.{PrefixGiven}
-use Rattle.sfc.specs.declared.give.prefix.PrefixGiven.TheVariants.{Unverified, Refused}
 use Rattle.sfc.proofs.session.SessionLaws.{right_lent}
+use Rattle.sfc.specs.declared.give.prefix.UnverifiedPrefix.{UnverifiedPrefix}
+use Rattle.sfc.specs.declared.answer.reason.Reason.{Reason}
+use Rattle.std.specs.Prelude.{Result, Ok, Err}
 
-pub leading_start : (marks : List ℕ) → 0 ≡ leading (drop (length marks) marks)
+-- the longest front of held marks
+pub leading-front : (marks : List ℕ) → prefix_len is_held marks ≡ leading marks
 unfolding leading
-leading_start marks = rw drop-length
-
-pub leading-held : (marks : List ℕ) (i n : ℕ) → 0 < i → i ≤ length marks → get_or marks (i - 1) 0 ≡ 1 → n ≡ leading (drop i marks) → n + 1 ≡ leading (drop (i - 1) marks)
-unfolding leading
-leading-held marks i n h k e f = rw (part_laws.drop_down marks i h k, eq-eqb (get_or marks (i - 1) 0) 1 e) (omega arith)
-
-pub leading_gap : (marks : List ℕ) (i : ℕ) → 0 < i → i ≤ length marks → (get_or marks (i - 1) 0 ≡ 1 → ⊥) → 0 ≡ leading (drop (i - 1) marks)
-unfolding leading
-leading_gap marks i h k d = rw (part_laws.drop_down marks i h k, ne_eqb (get_or marks (i - 1) 0) 1 d)
+leading-front [] = refl
+leading-front (k ∷ marks) = ap (λ (n : ℕ). cond (is_held k) (1 + n) 0) (leading-front marks)
 
 leading_most : (marks : List ℕ) → leading marks ≤ length marks
 unfolding leading
@@ -46,7 +41,7 @@ leading_most (k ∷ marks) = go (is_held k) (leading_most marks)
 
 module _ (h : Head) (store marks out : List ℕ) where
   pub prefix_lent : lent_wrong h.size h.n h.m h.s store marks ≡ true
-      → ◌≡◌ {A = Answered PrefixGiven} (record { answer = Refused Lent; output = out }) (prefix_given h store marks out)
+      → ◌≡◌ {A = Answered (Result UnverifiedPrefix Reason)} (record { answer = Err Lent; output = out }) (prefix_given h store marks out)
   unfolding prefix_given
   prefix_lent e = rw e
 
@@ -78,15 +73,15 @@ module _ (h : Head) (store marks out : List ℕ) where
       length_prefix : length (prefix_of h store marks) ≡ end
       length_prefix = ap length (sym is_prefix) ∙ length-take-le end store end_in
 
-      pub prefix_short : length out < end → ◌≡◌ {A = Answered PrefixGiven} (record { answer = Refused OutputShort; output = out }) (prefix_given h store marks out)
+      pub prefix_short : length out < end → ◌≡◌ {A = Answered (Result UnverifiedPrefix Reason)} (record { answer = Err OutputShort; output = out }) (prefix_given h store marks out)
       unfolding prefix_given
       prefix_short l = rw (w, lt-ltb (length out) (length (prefix_of h store marks)) (omega (arith, length_prefix)))
 
-      pub prefix_given_lem : end ≤ length out → (src : List ℕ) → src ≡ take end store → (o : List ℕ) → o ≡ take (length src) src ++ drop (length src) out
-          → ◌≡◌ {A = Answered PrefixGiven} (record { answer = Unverified (number b) (place end); output = o }) (prefix_given h store marks out)
+      pub prefix_given_lem : end ≤ length out → (src : List ℕ) → src ≡ take end store → (o : List ℕ) → o ≡ src ++ drop end out
+          → ◌≡◌ {A = Answered (Result UnverifiedPrefix Reason)} (record { answer = Ok (unverified_prefix (number b) (place end)); output = o }) (prefix_given h store marks out)
       unfolding prefix_given
       prefix_given_lem l src es o eo =
           let p : src ≡ prefix_of h store marks = es ∙ is_prefix in
           let q : o ≡ put out 0 (prefix_of h store marks) =
-          eo ∙ ap (λ (u : List ℕ). u ++ drop (length src) out) (take_all (length src) src (omega arith)) ∙ ap (λ (u : List ℕ). put out 0 u) p in
+          eo ∙ ap₂ (λ (u : List ℕ) (k : ℕ). u ++ drop k out) p (sym length_prefix) in
           rw (w, le-ltb (length out) (length (prefix_of h store marks)) (omega (arith, length_prefix)), q, eb, ← length_prefix)

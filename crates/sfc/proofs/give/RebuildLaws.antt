@@ -12,8 +12,9 @@ use lib.ListN.{length, replicate}
 use Rattle.little.specs.Runs.{zeros}
 use Rattle.little.proofs.Laws.{test_laws}
 use Rattle.cauchy.specs.Decode.{holding, missing_data}
-use Rattle.cauchy.specs.Calls.{wrong_shape, wrong_memory, Rebuilt, rebuilt, rebuilt_scratch, rebuild_spec, decoded_scratch, rebuild_all_spec}
-use Rattle.cauchy.specs.declared.Answer.{Answer}
+use Rattle.cauchy.specs.Calls.{wrong_shape, wrong_memory, Rebuilt, rebuilt, rebuilt_scratch, rebuild_spec, decoded_scratch, rebuild_all_spec, Answer}
+use Rattle.cauchy.specs.declared.shape.Refusal.{Refusal}
+use Rattle.std.specs.Prelude.{Ok, Err, is_ok}
 use Rattle.cauchy.proofs.Theorems.{theorems}
 use Rattle.cauchy.proofs.Laws.{missing_laws}
 use Rattle.sfc.specs.session.Marks.{held_count}
@@ -101,22 +102,20 @@ able_shape n m s store marks scratch numbers r first count fits =
 
 rebuilt_cases : (n m s : ℕ) (store marks scratch numbers : List ℕ) → Rebuildable n m s store marks scratch numbers
     → rebuild_all_spec n m s marks store scratch numbers
-    ≡ cond (ltb (held_count marks) n) (record { scratch = scratch; numbers = numbers; answer = Answer.TooFew })
-    (record { scratch = decoded_scratch n m s marks store scratch; numbers = replicate 1024 0; answer = Answer.Done })
+    ≡ cond (ltb (held_count marks) n) (record { scratch = scratch; numbers = numbers; answer = Err Refusal.TooFew })
+    (record { scratch = decoded_scratch n m s marks store scratch; numbers = replicate 1024 0; answer = Ok tt })
 unfolding rebuild_all_spec
 rebuilt_cases n m s store marks scratch numbers r = rw (able_shape n m s store marks scratch numbers r 0 (s / 2) (omega arith))
 
 pub columns_cases : (n m s : ℕ) (store marks scratch numbers : List ℕ) → Rebuildable n m s store marks scratch numbers → (first count : ℕ) → first + count ≤ s / 2
     → rebuild_spec n m s marks store scratch numbers first count
-    ≡ cond (ltb (held_count marks) n) (rebuilt scratch numbers Answer.TooFew)
-    (rebuilt (rebuilt_scratch n m s marks store first count scratch) (zeros 1024) Answer.Done)
+    ≡ cond (ltb (held_count marks) n) (rebuilt scratch numbers (Err Refusal.TooFew))
+    (rebuilt (rebuilt_scratch n m s marks store first count scratch) (zeros 1024) (Ok tt))
 unfolding rebuild_spec
 columns_cases n m s store marks scratch numbers r first count fits = rw (able_shape n m s store marks scratch numbers r first count fits)
 
 abbrev pub is_done : Answer → Bool
-is_done Answer.Done = true
-is_done Answer.TooFew = false
-is_done Answer.BadShape = false
+is_done answer = is_ok answer
 
 -- ---- a test and its negation
 
@@ -128,11 +127,11 @@ enough_told r t p e = not-true t (sym e ∙ not-false r p)
 
 -- ---- by the answer
 
-done_told : (t : Bool) (x few done : Rebuilt) → x ≡ cond t few done → few.answer ≡ Answer.TooFew → x.answer ≡ Answer.Done → (true ≡ not t) × (x.scratch ≡ done.scratch)
-done_told true x few done e f a = absurd (true≢false (ap is_done (sym a ∙ ap (λ (y : Rebuilt). y.answer) e ∙ f)))
+done_told : (t : Bool) (x few done : Rebuilt) → x ≡ cond t few done → few.answer ≡ Err Refusal.TooFew → is_done x.answer ≡ true → (true ≡ not t) × (x.scratch ≡ done.scratch)
+done_told true x few done e f a = absurd (true≢false (sym a ∙ ap is_done (ap (λ (y : Rebuilt). y.answer) e ∙ f)))
 done_told false x few done e f a = (refl, ap (λ (y : Rebuilt). y.scratch) e)
 
-other-told : (t : Bool) (x few done : Rebuilt) → x ≡ cond t few done → done.answer ≡ Answer.Done → is_done x.answer ≡ false → false ≡ not t
+other-told : (t : Bool) (x few done : Rebuilt) → x ≡ cond t few done → done.answer ≡ Ok tt → is_done x.answer ≡ false → false ≡ not t
 other-told true x few done e d a = refl
 other-told false x few done e d a = absurd (true≢false (sym (ap is_done (ap (λ (y : Rebuilt). y.answer) e ∙ d)) ∙ a))
 
@@ -149,15 +148,22 @@ restored n m s store marks scratch numbers scratch' r few e l =
       found = λ k hk. rw e (theorems.decodes n m s marks store scratch r.s_least r.even r.marks_long r.scratch_long h k hk);
     }
 
-pub rebuilt_done : (n m s : ℕ) (store marks scratch numbers : List ℕ) (x : Rebuilt) → Rebuildable n m s store marks scratch numbers
-    → x ≡ rebuild_all_spec n m s marks store scratch numbers → x.answer ≡ Answer.Done → length x.scratch ≡ length scratch
+rebuilt_done : (n m s : ℕ) (store marks scratch numbers : List ℕ) (x : Rebuilt) → Rebuildable n m s store marks scratch numbers
+    → x ≡ rebuild_all_spec n m s marks store scratch numbers → is_done x.answer ≡ true → length x.scratch ≡ length scratch
     → (true ≡ not (ltb (held_count marks) n)) × (true ≡ true → Restored n m s marks store x.scratch)
 rebuilt_done n m s store marks scratch numbers x r e a l =
     let t = done_told (ltb (held_count marks) n) x _ _ (e ∙ rebuilt_cases n m s store marks scratch numbers r) refl a in
     (t.0, λ q. restored n m s store marks scratch numbers x.scratch r (enough_told true (ltb (held_count marks) n) refl t.0) t.1 l)
 
-pub rebuilt-not : (n m s : ℕ) (store marks scratch numbers : List ℕ) (x : Rebuilt) → Rebuildable n m s store marks scratch numbers
+rebuilt-not : (n m s : ℕ) (store marks scratch numbers : List ℕ) (x : Rebuilt) → Rebuildable n m s store marks scratch numbers
     → x ≡ rebuild_all_spec n m s marks store scratch numbers → is_done x.answer ≡ false → length x.scratch ≡ length scratch
     → (false ≡ not (ltb (held_count marks) n)) × (false ≡ true → Restored n m s marks store x.scratch)
 rebuilt-not n m s store marks scratch numbers x r e a l =
     (other-told (ltb (held_count marks) n) x _ _ (e ∙ rebuilt_cases n m s store marks scratch numbers r) refl a, λ q. absurd (false≢true q))
+
+-- by whether the call went well
+pub rebuilt_told : (n m s : ℕ) (store marks scratch numbers : List ℕ) (x : Rebuilt) (r : Bool) → Rebuildable n m s store marks scratch numbers
+    → x ≡ rebuild_all_spec n m s marks store scratch numbers → is_done x.answer ≡ r → length x.scratch ≡ length scratch
+    → (r ≡ not (ltb (held_count marks) n)) × (r ≡ true → Restored n m s marks store x.scratch)
+rebuilt_told n m s store marks scratch numbers x true h e a l = rebuilt_done n m s store marks scratch numbers x h e a l
+rebuilt_told n m s store marks scratch numbers x false h e a l = rebuilt-not n m s store marks scratch numbers x h e a l

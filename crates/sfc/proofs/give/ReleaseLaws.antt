@@ -1,11 +1,10 @@
 -- A release: what it may take for granted past 54, and its answers. Assumes nothing.
 use Prim.Native.Nat.{ℕ, ◌+◌, ◌^◌, ◌<◌, ◌≤◌}
-use mathlib.Core.Path.{◌≡◌, sym}
+use mathlib.Core.Path.{◌≡◌, sym, ap}
 use mathlib.Core.Bool.{Bool, true, false, cond, not, true≢false, false≢true}
 use mathlib.Core.List.{List}
 use native.Mathlib.Omega.{arith}
 use native.Mathlib.Nat.{mul-le-mul_right}
-use lib.Dec.{ltb}
 use lib.ListN.{length}
 use lib.Seq.{length-take-le}
 use Rattle.little.specs.Parts.{put}
@@ -14,21 +13,22 @@ use Rattle.blake3.specs.Tree.{hash}
 use Rattle.cauchy.specs.Code.{joined}
 use Rattle.cauchy.specs.Decode.{missing_data}
 use Rattle.cauchy.proofs.Laws.{missing_laws}
-use Rattle.sfc.specs.answer.Numbers.{Answered}
-use Rattle.sfc.specs.answer.Places.{place}
+use Rattle.sfc.specs.answer.Numbers.{Check, Answered, verdict, passes}
+use Rattle.sfc.specs.answer.Places.{place, complete}
 use Rattle.sfc.specs.session.Marks.{held_count}
-use Rattle.sfc.specs.session.Lent.{columns_wrong}
 use Rattle.sfc.specs.session.Right.{RightShape}
 use Rattle.sfc.specs.inner.Gather.{Gatherable, joined_given}
-use Rattle.sfc.specs.give.Turns.{columns_left, piece_of, joined_bytes, joined_of, releasing_of, release}
+use Rattle.sfc.specs.give.Turns.{piece_of, joined_bytes, joined_of, releasing_of, release_lent, joined_checks, release}
 use Rattle.sfc.specs.declared.format.header.Head.{Head}
-use Rattle.sfc.specs.declared.answer.reason.Reason.TheVariants.{Few, ContentHash, OutputShort, Unfinished, Lent as LentWrong}
-use Rattle.sfc.specs.declared.give.release.HandedOut.{HandedOut}
-use Rattle.sfc.specs.declared.give.release.HandedOut.TheVariants.{Complete, Refused}
+use Rattle.sfc.specs.declared.answer.reason.Reason.TheVariants.{ContentHash}
+use Rattle.sfc.proofs.answer.CheckLaws.{passed, refused_then, wrong_fails}
 use Rattle.sfc.proofs.writing.LengthLaws.{length-joined}
 use Rattle.sfc.proofs.give.GatherLaws.{length-piece}
 use Rattle.sfc.proofs.give.RebuildLaws.{cut_right}
 use Rattle.sfc.proofs.give.TurnLaws.{RightColumns}
+use Rattle.sfc.specs.declared.give.release.Complete.{Complete}
+use Rattle.sfc.specs.declared.answer.reason.Reason.{Reason}
+use Rattle.std.specs.Prelude.{Result, Ok, Err}
 
 pub size_small : (size n m s : ℕ) → RightShape size n m s → size < 2 ^ 32
 size_small size n m s r = omega (arith, (cut_right size n m s r).most, r.small, mul-le-mul_right {m = n} {n = n + m} s (omega arith))
@@ -61,55 +61,47 @@ length-joined_bytes size n m s store marks scratch f r e =
 
 module _ (h : Head) (store marks scratch out : List ℕ) where
   pub joined_differs : same (hash (joined_of h store marks scratch)) h.hash ≡ false
-      → ◌≡◌ {A = Answered HandedOut} (record { answer = Refused ContentHash; output = out }) (joined_given h store marks scratch out)
+      → ◌≡◌ {A = Answered (Result Complete Reason)} (record { answer = Err ContentHash; output = out }) (joined_given h store marks scratch out)
   unfolding joined_given
   joined_differs e = rw e
 
   pub joined_complete : same (hash (joined_of h store marks scratch)) h.hash ≡ true
-      → ◌≡◌ {A = Answered HandedOut} (record { answer = Complete (place h.size); output = put out 0 (joined_of h store marks scratch) }) (joined_given h store marks scratch out)
+      → ◌≡◌ {A = Answered (Result Complete Reason)} (record { answer = Ok (complete (place h.size)); output = put out 0 (joined_of h store marks scratch) }) (joined_given h store marks scratch out)
   unfolding joined_given
   joined_complete e = rw e
 
   -- and by what the inner call answers
   pub joined-not : (r : Bool) (after : List ℕ) → not r ≡ true → r ≡ same (hash (joined_of h store marks scratch)) h.hash
       → after ≡ cond r (put out 0 (joined_of h store marks scratch)) out
-      → ◌≡◌ {A = Answered HandedOut} (record { answer = Refused ContentHash; output = after }) (joined_given h store marks scratch out)
+      → ◌≡◌ {A = Answered (Result Complete Reason)} (record { answer = Err ContentHash; output = after }) (joined_given h store marks scratch out)
   joined-not true after p f g = absurd (false≢true p)
   joined-not false after p f g = rw g (joined_differs (sym f))
 
   pub joined-all : (r : Bool) (after : List ℕ) → not r ≡ false → r ≡ same (hash (joined_of h store marks scratch)) h.hash
       → after ≡ cond r (put out 0 (joined_of h store marks scratch)) out
-      → ◌≡◌ {A = Answered HandedOut} (record { answer = Complete (place h.size); output = after }) (joined_given h store marks scratch out)
+      → ◌≡◌ {A = Answered (Result Complete Reason)} (record { answer = Ok (complete (place h.size)); output = after }) (joined_given h store marks scratch out)
   joined-all true after p f g = rw g (joined_complete (sym f))
   joined-all false after p f g = absurd (true≢false p)
 
 -- ---- the answers of the call
 
 module _ (h : Head) (store marks scratch : List ℕ) (f : ℕ) (out : List ℕ) where
-  pub released_wrong : columns_wrong h.size h.n h.m h.s store marks scratch f ≡ true
-      → releasing_of (Refused LentWrong) f scratch out ≡ release h store marks scratch f out
+  -- a refusal by what is lent changes nothing
+  pub released_not : (r : Reason) → verdict (release_lent h store marks scratch f out) ≡ Err r → releasing_of (Err r) f scratch out ≡ release h store marks scratch f out
   unfolding release
-  released_wrong e = rw e
+  released_not r e =
+      let cs : List Check = release_lent h store marks scratch f out in
+      let ds : List Check = joined_checks h store marks scratch in
+      let p : passes cs ≡ false = wrong_fails cs r e in
+      let a = refused_then Err cs ds (Ok (complete (place h.size))) r e in
+      let o = refused_then (λ (q : Reason). out) cs ds (put out 0 (joined_of h store marks scratch)) r e in
+      λ i. releasing_of (sym a i) (sym (ap (λ (t : Bool). cond t 0 f) p) i) (sym (ap (λ (t : Bool). cond t (zeros (length scratch)) scratch) p) i) (sym o i)
 
-  module _ (right : columns_wrong h.size h.n h.m h.s store marks scratch f ≡ false) where
-    pub released_short : ltb (length out) h.size ≡ true → releasing_of (Refused OutputShort) f scratch out ≡ release h store marks scratch f out
-    unfolding release
-    released_short e = rw (right, e)
-
-    module _ (room : ltb (length out) h.size ≡ false) where
-      pub released_few : ltb (held_count marks) h.n ≡ true → releasing_of (Refused Few) f scratch out ≡ release h store marks scratch f out
-      unfolding release
-      released_few e = rw (right, room, e)
-
-      module _ (enough : ltb (held_count marks) h.n ≡ false) where
-        pub released_unfinished : ltb 0 (columns_left h.n h.s marks f) ≡ true
-            → releasing_of (Refused Unfinished) f scratch out ≡ release h store marks scratch f out
-        unfolding release
-        released_unfinished e = rw (right, room, enough, e)
-
-        pub released_judged : ltb 0 (columns_left h.n h.s marks f) ≡ false → (answer : HandedOut) (output scratch' : List ℕ)
-            → ◌≡◌ {A = Answered HandedOut} (record { answer = answer; output = output }) (joined_given h store marks scratch out)
-            → scratch' ≡ zeros (length scratch) → releasing_of answer 0 scratch' output ≡ release h store marks scratch f out
-        unfolding release joined_given
-        released_judged e answer output scratch' g es =
-            rw (right, room, enough, e) (λ i. releasing_of (g i).answer 0 (es i) (g i).output)
+  -- past it the bytes are judged
+  pub released_judged : verdict (release_lent h store marks scratch f out) ≡ Ok tt → (answer : Result Complete Reason) (output scratch' : List ℕ)
+      → ◌≡◌ {A = Answered (Result Complete Reason)} (record { answer = answer; output = output }) (joined_given h store marks scratch out)
+      → scratch' ≡ zeros (length scratch) → releasing_of answer 0 scratch' output ≡ release h store marks scratch f out
+  unfolding release joined_given
+  released_judged e answer output scratch' g es =
+      let p = passed (release_lent h store marks scratch f out) e in
+      rw (p.0, p.1.0, p.1.1.0, p.1.1.1.0) (λ i. releasing_of (g i).answer 0 (es i) (g i).output)

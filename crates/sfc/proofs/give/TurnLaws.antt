@@ -11,8 +11,9 @@ use lib.Seq.{length-take-le}
 use Rattle.little.specs.Runs.{zeros}
 use Rattle.little.proofs.Laws.{test_laws}
 use Rattle.cauchy.specs.Decode.{held}
-use Rattle.cauchy.specs.Calls.{Rebuilt, rebuilt, rebuilt_scratch, rebuild_spec}
-use Rattle.cauchy.specs.declared.Answer.{Answer}
+use Rattle.cauchy.specs.Calls.{Rebuilt, rebuilt, rebuilt_scratch, rebuild_spec, Answer}
+use Rattle.cauchy.specs.declared.shape.Refusal.{Refusal}
+use Rattle.std.specs.Prelude.{Ok, Err}
 use Rattle.cauchy.proofs.Laws.{missing_laws}
 use Rattle.sfc.specs.answer.Places.{columns}
 use Rattle.sfc.specs.session.Marks.{held_count}
@@ -22,10 +23,10 @@ use Rattle.sfc.specs.inner.Gather.{Rebuildable}
 use Rattle.sfc.specs.give.Turns.{gone, columns_left, turning_of, turn_count, turn}
 use Rattle.sfc.specs.declared.format.header.Head.{Head}
 use Rattle.sfc.specs.declared.answer.reason.Reason.TheVariants.{Few, Lent as LentWrong}
-use Rattle.sfc.specs.declared.give.turn.Turned.TheVariants.{Did, Refused as NoTurn}
 use Rattle.sfc.proofs.session.SessionLaws.{right_lent}
 use Rattle.sfc.proofs.session.KeptLaws.{RightBeside, right_beside}
 use Rattle.sfc.proofs.give.RebuildLaws.{is_done, columns_cases}
+use Rattle.std.specs.Prelude.{Ok, Err}
 
 -- ---- past 71
 
@@ -88,59 +89,59 @@ module _ (n s : ℕ) (marks : List ℕ) (f : ℕ) where
 
 module _ (h : Head) (store marks scratch numbers : List ℕ) (f b : ℕ) where
   pub turn-wrong : columns_wrong h.size h.n h.m h.s store marks scratch f ≡ true
-      → turning_of (NoTurn LentWrong) f scratch numbers ≡ turn h store marks scratch numbers f b
+      → turning_of (Err LentWrong) f scratch numbers ≡ turn h store marks scratch numbers f b
   unfolding turn
   turn-wrong e = rw e
 
   module _ (right : columns_wrong h.size h.n h.m h.s store marks scratch f ≡ false) where
-    pub turn-other : (length numbers ≡ 1024 → ⊥) → turning_of (NoTurn LentWrong) f scratch numbers ≡ turn h store marks scratch numbers f b
+    pub turn-other : (length numbers ≡ 1024 → ⊥) → turning_of (Err LentWrong) f scratch numbers ≡ turn h store marks scratch numbers f b
     unfolding turn
     turn-other l = rw (right, ne_eqb (length numbers) 1024 l)
 
     module _ (long : length numbers ≡ 1024) where
       turn_past : turn h store marks scratch numbers f b
-          ≡ cond (ltb (held_count marks) h.n) (turning_of (NoTurn Few) f scratch numbers)
-          (turning_of (Did (columns (turn_count h marks f b))) (f + turn_count h marks f b) (rebuilt_scratch h.n h.m h.s marks store f (turn_count h marks f b) scratch) (zeros 1024))
+          ≡ cond (ltb (held_count marks) h.n) (turning_of (Err Few) f scratch numbers)
+          (turning_of (Ok (columns (turn_count h marks f b))) (f + turn_count h marks f b) (rebuilt_scratch h.n h.m h.s marks store f (turn_count h marks f b) scratch) (zeros 1024))
       unfolding turn
       turn_past = rw (right, eq-eqb (length numbers) 1024 long)
 
       -- what the code's call answers is what the turn answers
       module _ (x : Rebuilt) (count : ℕ) (fits : f + count ≤ h.s / 2) (as-counted : count ≡ turn_count h marks f b)
           (e : x ≡ rebuild_spec h.n h.m h.s marks store scratch numbers f count) where
-        cases : x ≡ cond (ltb (held_count marks) h.n) (rebuilt scratch numbers Answer.TooFew)
-            (rebuilt (rebuilt_scratch h.n h.m h.s marks store f count scratch) (zeros 1024) Answer.Done)
+        cases : x ≡ cond (ltb (held_count marks) h.n) (rebuilt scratch numbers (Err Refusal.TooFew))
+            (rebuilt (rebuilt_scratch h.n h.m h.s marks store f count scratch) (zeros 1024) (Ok tt))
         cases =
             e ∙ columns_cases h.n h.m h.s store marks scratch numbers
             (able_columns h.size h.n h.m h.s store marks scratch f (right_columns h.size h.n h.m h.s store marks scratch f right) numbers long) f count fits
 
-        pub turn_done_lem : x.answer ≡ Answer.Done → turning_of (Did (columns count)) (f + count) x.scratch x.numbers ≡ turn h store marks scratch numbers f b
+        pub turn_done_lem : x.answer ≡ Ok tt → turning_of (Ok (columns count)) (f + count) x.scratch x.numbers ≡ turn h store marks scratch numbers f b
         turn_done_lem a = go (ltb (held_count marks) h.n) cases turn_past
           where
-            go : (t : Bool) → x ≡ cond t (rebuilt scratch numbers Answer.TooFew) (rebuilt (rebuilt_scratch h.n h.m h.s marks store f count scratch) (zeros 1024) Answer.Done)
+            go : (t : Bool) → x ≡ cond t (rebuilt scratch numbers (Err Refusal.TooFew)) (rebuilt (rebuilt_scratch h.n h.m h.s marks store f count scratch) (zeros 1024) (Ok tt))
                 → turn h store marks scratch numbers f b
-                ≡ cond t (turning_of (NoTurn Few) f scratch numbers)
-                (turning_of (Did (columns (turn_count h marks f b))) (f + turn_count h marks f b) (rebuilt_scratch h.n h.m h.s marks store f (turn_count h marks f b) scratch) (zeros 1024))
-                → turning_of (Did (columns count)) (f + count) x.scratch x.numbers ≡ turn h store marks scratch numbers f b
+                ≡ cond t (turning_of (Err Few) f scratch numbers)
+                (turning_of (Ok (columns (turn_count h marks f b))) (f + turn_count h marks f b) (rebuilt_scratch h.n h.m h.s marks store f (turn_count h marks f b) scratch) (zeros 1024))
+                → turning_of (Ok (columns count)) (f + count) x.scratch x.numbers ≡ turn h store marks scratch numbers f b
             go true q p = absurd (true≢false (ap is_done (sym a ∙ ap (λ (y : Rebuilt). y.answer) q)))
             go false q p =
-                ap (λ (y : Rebuilt). turning_of (Did (columns count)) (f + count) y.scratch y.numbers) q
-                ∙ ap (λ (k : ℕ). turning_of (Did (columns k)) (f + k) (rebuilt_scratch h.n h.m h.s marks store f k scratch) (zeros 1024)) as-counted ∙ sym p
+                ap (λ (y : Rebuilt). turning_of (Ok (columns count)) (f + count) y.scratch y.numbers) q
+                ∙ ap (λ (k : ℕ). turning_of (Ok (columns k)) (f + k) (rebuilt_scratch h.n h.m h.s marks store f k scratch) (zeros 1024)) as-counted ∙ sym p
 
-        pub turn-few : is_done x.answer ≡ false → turning_of (NoTurn Few) f x.scratch x.numbers ≡ turn h store marks scratch numbers f b
+        pub turn-few : is_done x.answer ≡ false → turning_of (Err Few) f x.scratch x.numbers ≡ turn h store marks scratch numbers f b
         turn-few a = go (ltb (held_count marks) h.n) cases turn_past
           where
-            go : (t : Bool) → x ≡ cond t (rebuilt scratch numbers Answer.TooFew) (rebuilt (rebuilt_scratch h.n h.m h.s marks store f count scratch) (zeros 1024) Answer.Done)
+            go : (t : Bool) → x ≡ cond t (rebuilt scratch numbers (Err Refusal.TooFew)) (rebuilt (rebuilt_scratch h.n h.m h.s marks store f count scratch) (zeros 1024) (Ok tt))
                 → turn h store marks scratch numbers f b
-                ≡ cond t (turning_of (NoTurn Few) f scratch numbers)
-                (turning_of (Did (columns (turn_count h marks f b))) (f + turn_count h marks f b) (rebuilt_scratch h.n h.m h.s marks store f (turn_count h marks f b) scratch) (zeros 1024))
-                → turning_of (NoTurn Few) f x.scratch x.numbers ≡ turn h store marks scratch numbers f b
-            go true q p = ap (λ (y : Rebuilt). turning_of (NoTurn Few) f y.scratch y.numbers) q ∙ sym p
+                ≡ cond t (turning_of (Err Few) f scratch numbers)
+                (turning_of (Ok (columns (turn_count h marks f b))) (f + turn_count h marks f b) (rebuilt_scratch h.n h.m h.s marks store f (turn_count h marks f b) scratch) (zeros 1024))
+                → turning_of (Err Few) f x.scratch x.numbers ≡ turn h store marks scratch numbers f b
+            go true q p = ap (λ (y : Rebuilt). turning_of (Err Few) f y.scratch y.numbers) q ∙ sym p
             go false q p = absurd (true≢false (sym (ap is_done (ap (λ (y : Rebuilt). y.answer) q)) ∙ a))
 
         -- and it never finds the shape wrong
-        pub turn_shaped : x.answer ≡ Answer.BadShape → ⊥
+        pub turn_shaped : x.answer ≡ Err Refusal.BadShape → ⊥
         turn_shaped a = go (ltb (held_count marks) h.n) cases
           where
-            go : (t : Bool) → x ≡ cond t (rebuilt scratch numbers Answer.TooFew) (rebuilt (rebuilt_scratch h.n h.m h.s marks store f count scratch) (zeros 1024) Answer.Done) → ⊥
-            go true q = absurd (let z : ◌≡◌ {A = Answer} Answer.BadShape Answer.TooFew = sym a ∙ ap (λ (y : Rebuilt). y.answer) q in let w : ◌≡◌ {A = ℕ} 0 1 = cc in omega arith)
-            go false q = absurd (let z : ◌≡◌ {A = Answer} Answer.BadShape Answer.Done = sym a ∙ ap (λ (y : Rebuilt). y.answer) q in let w : ◌≡◌ {A = ℕ} 0 1 = cc in omega arith)
+            go : (t : Bool) → x ≡ cond t (rebuilt scratch numbers (Err Refusal.TooFew)) (rebuilt (rebuilt_scratch h.n h.m h.s marks store f count scratch) (zeros 1024) (Ok tt)) → ⊥
+            go true q = absurd (let z : ◌≡◌ {A = Answer} (Err Refusal.BadShape) (Err Refusal.TooFew) = sym a ∙ ap (λ (y : Rebuilt). y.answer) q in let w : ◌≡◌ {A = ℕ} 0 1 = cc in omega arith)
+            go false q = absurd (let z : ◌≡◌ {A = Answer} (Err Refusal.BadShape) (Ok tt) = sym a ∙ ap (λ (y : Rebuilt). y.answer) q in let w : ◌≡◌ {A = ℕ} 0 1 = cc in omega arith)

@@ -16,8 +16,8 @@ use Rattle.cauchy.specs.Code.{word_of}
 use Rattle.cauchy.specs.Calls.{rebuilt_scratch}
 use Rattle.cauchy.proofs.Laws.{scratch_laws}
 use Rattle.cauchy.proofs.Theorems.{theorems}
-use Rattle.sfc.specs.answer.Numbers.{checked, verdict, passes}
-use Rattle.sfc.specs.answer.Places.{place, columns}
+use Rattle.sfc.specs.answer.Numbers.{checked, verdict, passes, Checked}
+use Rattle.sfc.specs.answer.Places.{place, columns, complete}
 use Rattle.sfc.specs.session.Marks.{held_count}
 use Rattle.sfc.specs.session.Lent.{lent_wrong, columns_wrong, lent_of, rebuild_wrong}
 use Rattle.sfc.specs.session.Tallies.{no_tallies, sum}
@@ -31,12 +31,6 @@ use Rattle.sfc.specs.declared.format.header.Head.{Head}
 use Rattle.sfc.specs.declared.answer.places.BytePlace.{BytePlace}
 use Rattle.sfc.specs.declared.answer.places.ColumnCount.{ColumnCount}
 use Rattle.sfc.specs.declared.answer.reason.Reason.{Reason}
-use Rattle.sfc.specs.declared.answer.reason.Checked.{Checked}
-use Rattle.sfc.specs.declared.answer.reason.Checked.TheVariants.{Good, Refused as Wrong}
-use Rattle.sfc.specs.declared.give.turn.Turned.{Turned}
-use Rattle.sfc.specs.declared.give.turn.Turned.TheVariants.{Did, Refused as NoTurn}
-use Rattle.sfc.specs.declared.give.release.HandedOut.{HandedOut}
-use Rattle.sfc.specs.declared.give.release.HandedOut.TheVariants.{Complete, Refused as NotHandedOut}
 use Rattle.sfc.proofs.answer.CheckLaws.{good_all, let_through}
 use Rattle.sfc.proofs.session.RightLaws.{zero-at}
 use Rattle.sfc.proofs.session.SessionLaws.{right_lent}
@@ -44,26 +38,28 @@ use Rattle.sfc.proofs.session.KeptLaws.{RightBeside, beside_right, right_beside,
 use Rattle.sfc.proofs.give.RebuildLaws.{RightRebuild, right_rebuild}
 use Rattle.sfc.proofs.give.TurnLaws.{right_columns, left_none, left_some}
 use Rattle.sfc.proofs.give.ColumnLaws.{turn_good, turn-not, turn_past, lent_part, count_fits, Made, made_start, made-beside, made-turn, made-acted, kept_on, blank_scratch, made_hands_out}
+use Rattle.sfc.specs.declared.give.release.Complete.{Complete}
+use Rattle.std.specs.Prelude.{Result, Ok, Err}
 
 -- ---- one turn
 
-no_turn : {A : Type 0} (r : Reason) (k : ColumnCount) → ◌≡◌ {A = Turned} (NoTurn r) (Did k) → A
+no_turn : {A : Type 0} (r : Reason) (k : ColumnCount) → ◌≡◌ {A = Result ColumnCount Reason} (Err r) (Ok k) → A
 no_turn r k e = absurd (let z : ◌≡◌ {A = ℕ} 0 1 = cc in omega arith)
 
-abbrev did_count : Turned → ℕ
-did_count (Did k) = k.0
-did_count (NoTurn r) = 0
+abbrev did_count : Result ColumnCount Reason → ℕ
+did_count (Ok k) = k.0
+did_count (Err r) = 0
 
-did_one : (i k : ℕ) → ◌≡◌ {A = Turned} (Did (columns i)) (Did (columns k)) → k ≡ i
+did_one : (i k : ℕ) → ◌≡◌ {A = Result ColumnCount Reason} (Ok (columns i)) (Ok (columns k)) → k ≡ i
 did_one i k e = sym (ap did_count e)
 
-module _ (h : Head) (store marks scratch numbers : List ℕ) (f b k : ℕ) (e : (turn h store marks scratch numbers f b).answer ≡ Did (columns k)) where
-  did : verdict (turn_checks h store marks scratch numbers f) ≡ Good
+module _ (h : Head) (store marks scratch numbers : List ℕ) (f b k : ℕ) (e : (turn h store marks scratch numbers f b).answer ≡ Ok (columns k)) where
+  did : verdict (turn_checks h store marks scratch numbers f) ≡ Ok tt
   did = go (verdict (turn_checks h store marks scratch numbers f)) refl
     where
-      go : (v : Checked) → verdict (turn_checks h store marks scratch numbers f) ≡ v → v ≡ Good
-      go Good q = refl
-      go (Wrong r) q = no_turn r (columns k) (sym (ap (λ (z : Turning). z.answer) (turn-not h store marks scratch numbers f b r q)) ∙ e)
+      go : (v : Checked) → verdict (turn_checks h store marks scratch numbers f) ≡ v → v ≡ Ok tt
+      go (Ok u) q = refl
+      go (Err r) q = no_turn r (columns k) (sym (ap (λ (z : Turning). z.answer) (turn-not h store marks scratch numbers f b r q)) ∙ e)
 
   as_done : turn h store marks scratch numbers f b ≡ turn_done h store marks scratch f (turn_count h marks f b)
   as_done = turn_good h store marks scratch numbers f b did
@@ -145,7 +141,7 @@ right_again h store marks scratch scratch' f f' e l m =
     rw (lent_part h.size h.n h.m h.s store marks scratch f e, beside_right h.m h.s scratch' f' (record { long = l; most = m }))
 
 module _ (h : Head) (y : Logged) (a : Able h y) (numbers : List ℕ) (long : length numbers ≡ 1024) (b : ℕ) where
-  goes : verdict (turn_checks h y.session.store y.session.marks y.scratch numbers y.finished) ≡ Good
+  goes : verdict (turn_checks h y.session.store y.session.marks y.scratch numbers y.finished) ≡ Ok tt
   goes = rw (a.right, eq-eqb (length numbers) 1024 long, le-ltb (held_count y.session.marks) h.n a.enough)
 
   -- it finishes the budget more, or all
@@ -257,17 +253,17 @@ turns_enough h y b acts r p g =
 
 -- ---- a release
 
-no_refusal : (r : Reason) (p : BytePlace) → ◌≡◌ {A = HandedOut} (NotHandedOut r) (Complete p) → ⊥
+no_refusal : (r : Reason) (p : BytePlace) → ◌≡◌ {A = Result Complete Reason} (Err r) (Ok (complete p)) → ⊥
 no_refusal r p e = let z : ◌≡◌ {A = ℕ} 0 1 = cc in omega arith
 
-complete_one : (p q : BytePlace) → ◌≡◌ {A = HandedOut} (Complete p) (Complete q) → p ≡ q
-complete_one p q e = cc
+complete_one : (p q : BytePlace) → ◌≡◌ {A = Result Complete Reason} (Ok (complete p)) (Ok (complete q)) → p ≡ q
+complete_one p q e = let f : complete p ≡ complete q = cc in ap (λ (c : Complete). c.end) f
 
 module _ (h : Head) (store marks scratch : List ℕ) (f : ℕ) (out : List ℕ) where
-  pub released : (p : BytePlace) → (release h store marks scratch f out).answer ≡ Complete p → Releasable h store marks scratch f out × (place h.size ≡ p)
+  pub released : (p : BytePlace) → (release h store marks scratch f out).answer ≡ Ok (complete p) → Releasable h store marks scratch f out × (place h.size ≡ p)
   unfolding release
   released p e =
-      let t = let_through NotHandedOut (release_checks h store marks scratch f out) (Complete (place h.size)) (Complete p) (λ r. no_refusal r p) e in (
+      let t = let_through Err (release_checks h store marks scratch f out) (Ok (complete (place h.size))) (Ok (complete p)) (λ r. no_refusal r p) e in (
         record {
           right = t.0.0;
           room = ltb-false (length out) h.size t.0.1.0;
@@ -278,22 +274,22 @@ module _ (h : Head) (store marks scratch : List ℕ) (f : ℕ) (out : List ℕ) 
         complete_one (place h.size) p t.1,
       )
 
-  pub good_release : Releasable h store marks scratch f out → verdict (release_checks h store marks scratch f out) ≡ Good
+  pub good_release : Releasable h store marks scratch f out → verdict (release_checks h store marks scratch f out) ≡ Ok tt
   good_release r =
       rw (r.right, le-ltb (length out) h.size r.room, le-ltb (held_count marks) h.n r.enough, r.none_left, r.has_hash, same_laws.same_refl h.hash)
 
-  pub release_gives : (p : BytePlace) → (release h store marks scratch f out).answer ≡ Complete p
+  pub release_gives : (p : BytePlace) → (release h store marks scratch f out).answer ≡ Ok (complete p)
       → (p ≡ place h.size) × ((release h store marks scratch f out).output ≡ put out 0 (joined_of h store marks scratch))
   unfolding release
   release_gives p e =
       let t = released p e in
       (sym t.1, good_all (λ (r : Reason). out) (release_checks h store marks scratch f out) (put out 0 (joined_of h store marks scratch)) (good_release t.0))
 
-  release_judges : ((release h store marks scratch f out).answer ≡ Complete (place h.size)) ↔ Releasable h store marks scratch f out
+  release_judges : ((release h store marks scratch f out).answer ≡ Ok (complete (place h.size))) ↔ Releasable h store marks scratch f out
   unfolding release
   release_judges = (
     λ e. (released (place h.size) e).0,
-    λ r. good_all NotHandedOut (release_checks h store marks scratch f out) (Complete (place h.size)) (good_release r),
+    λ r. good_all Err (release_checks h store marks scratch f out) (Ok (complete (place h.size))) (good_release r),
   )
 
 -- ---- turns of budgets for all columns, and then a release
@@ -359,13 +355,13 @@ module _ (h : Head) (store marks scratch : List ℕ) (f : ℕ) (r : RightBeside 
     where
       go : (v : Checked) → verdict (turn_checks h store marks scratch numbers f) ≡ v
           → RightBeside h.m h.s (turn h store marks scratch numbers f b).scratch (turn h store marks scratch numbers f b).finished
-      go Good e =
+      go (Ok tt) e =
           rw (turn_good h store marks scratch numbers f b e)
           (record {
             long = scratch_laws.length-rebuilt h.n h.m h.s marks store f (turn_count h marks f b) scratch ∙ r.long;
             most = count_fits h marks f b r.most;
           })
-      go (Wrong q) e = rw (turn-not h store marks scratch numbers f b q e) r
+      go (Err q) e = rw (turn-not h store marks scratch numbers f b q e) r
 
   pub beside-release : (out : List ℕ) → RightBeside h.m h.s (release h store marks scratch f out).scratch (release h store marks scratch f out).finished
   unfolding release
@@ -400,10 +396,10 @@ turn_long h store marks scratch numbers f b = go (verdict (turn_checks h store m
   where
     go : (v : Checked) → verdict (turn_checks h store marks scratch numbers f) ≡ v
         → (length (turn h store marks scratch numbers f b).scratch ≡ length scratch) × (length (turn h store marks scratch numbers f b).numbers ≡ length numbers)
-    go Good e =
+    go (Ok tt) e =
         rw (turn_good h store marks scratch numbers f b e)
         (scratch_laws.length-rebuilt h.n h.m h.s marks store f (turn_count h marks f b) scratch, length-replicate {A = ℕ} 1024 0 ∙ sym (turn_past h store marks scratch numbers f e).long)
-    go (Wrong r) e = rw (turn-not h store marks scratch numbers f b r e) (refl, refl)
+    go (Err r) e = rw (turn-not h store marks scratch numbers f b r e) (refl, refl)
 
 pub release_long : (h : Head) (store marks scratch : List ℕ) (f : ℕ) (out : List ℕ) → length (release h store marks scratch f out).scratch ≡ length scratch
 unfolding release
@@ -445,7 +441,7 @@ module _ (h : Head) (store marks scratch numbers out : List ℕ) (e : rebuild_wr
       (test_laws.below_or (gone h.n marks) 1)
 
   pub whole-turn : (z : Turning) → z ≡ turn h store marks scratch numbers 0 (h.s / 2)
-      → (release h store marks z.scratch z.finished out).answer ≡ checked (content_checks h store marks) NotHandedOut (Complete (place h.size))
+      → (release h store marks z.scratch z.finished out).answer ≡ checked (content_checks h store marks) Err (Ok (complete (place h.size)))
   unfolding acted hand_out
   whole-turn z q =
       let k = made-turn h scratch begun (made_start h begun.session scratch right.able.scratch_long) numbers (h.s / 2) in

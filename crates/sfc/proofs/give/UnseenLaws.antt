@@ -18,7 +18,7 @@ use Rattle.cauchy.specs.Calls.{rebuilt_scratch}
 use Rattle.cauchy.proofs.Laws.{code_laws, scratch_laws}
 use Rattle.cauchy.proofs.Theorems.{theorems}
 use Rattle.sfc.specs.answer.Numbers.{Check, checked, passes, Passed}
-use Rattle.sfc.specs.answer.Places.{number, place}
+use Rattle.sfc.specs.answer.Places.{number, place, unverified_block}
 use Rattle.sfc.specs.session.Marks.{is_held, held_count}
 use Rattle.sfc.specs.session.Session.{Session}
 use Rattle.sfc.specs.session.Lent.{lent_wrong, Lent, rebuild_wrong, columns_wrong}
@@ -29,12 +29,12 @@ use Rattle.sfc.specs.give.Block.{block_given, block_lent, block_checks, block_re
 use Rattle.sfc.specs.demand.Demand3.{SameHeld}
 use Rattle.sfc.specs.declared.format.header.Head.{Head}
 use Rattle.sfc.specs.declared.answer.reason.Reason.{Reason}
-use Rattle.sfc.specs.declared.give.block.BlockGiven.TheVariants.{Unverified, Refused}
 use Rattle.sfc.proofs.session.SessionLaws.{right_lent}
 use Rattle.sfc.proofs.session.HeldLaws.{decode-held}
 use Rattle.sfc.proofs.give.TurnLaws.{right_columns}
 use Rattle.sfc.proofs.give.ColumnLaws.{count_fits}
 use Rattle.sfc.proofs.give.GivenLaws.{lent_right}
+use Rattle.std.specs.Prelude.{Ok, Err}
 
 -- what comes after checks matters only where they all pass
 checked-same : {A : Type 0} (cs : List Check) (refuse : Reason → A) (a b : A) → (Passed cs → a ≡ b) → checked cs refuse a ≡ checked cs refuse b
@@ -73,7 +73,7 @@ module _ (h : Head) (x y : Session) (alike : SameHeld h x y) (l : Lent) where
   block_unseen j =
       rw (same-wrong, alike.marks)
       (ap (λ (o : List ℕ). record {
-        answer = checked (block_checks h x.store x.marks j l) Refused (Unverified (number j) (place (j * h.s)));
+        answer = checked (block_checks h x.store x.marks j l) Err (Ok (unverified_block (number j) (place (j * h.s))));
         lent = lent_after (passes (block_lent h x.store x.marks j l)) l o;
       })
       (checked-same (block_checks h x.store x.marks j l) (λ (r : Reason). l.output) _ _ (λ p. ap (put l.output 0) (same-given j p))))

@@ -6,8 +6,9 @@ use mathlib.Core.Bool.{Bool, true, false, cond}
 use mathlib.Core.List.{List, [], ◌∷◌, ◌++◌}
 use native.Mathlib.Omega.{arith}
 use borrow.Author.Tests.{eq-eqb, ne_eqb, le-leb, lt-leb, lt-ltb, le-ltb}
-use lib.ListN.{length, get_or, set, take, drop, length-set}
-use lib.Seq.{length-take-le, drop-length}
+use lib.ListN.{length, get_or, set, take, drop, length-set, length-append}
+use lib.Seq.{length-take-le, drop-length, take-take, take_all, get_or-take, get_or-append-add}
+use Rattle.std.proofs.lemmas.List.{take-append-le}
 use Rattle.little.specs.Parts.{put}
 use Rattle.little.proofs.Laws.{part_laws, put_laws}
 use Rattle.cauchy.specs.Decode.{held, count}
@@ -16,10 +17,25 @@ use Rattle.sfc.specs.session.Lent.{marks_wrong}
 use Rattle.sfc.specs.answer.Numbers.{Answered}
 use Rattle.sfc.specs.note.Missing.{unheld_from, missing, list_missing}
 use Rattle.sfc.specs.declared.format.header.Head.{Head}
-use Rattle.sfc.specs.declared.note.missing.Listed.{Listed}
-use Rattle.sfc.specs.declared.note.missing.Listed.TheVariants.{Count, Refused}
 use Rattle.sfc.proofs.session.MarkLaws.{right_marks}
 use Rattle.sfc.specs.declared.answer.reason.Reason.TheVariants.{Lent, OutputShort}
+use Rattle.sfc.specs.declared.answer.reason.Reason.{Reason}
+use Rattle.std.specs.Prelude.{Result, Ok, Err}
+
+-- ---- a turn of a walk from the last mark to the first: `left` are the marks before it, and m is the mark that it meets
+
+pub back : (marks rest left : List ℕ) (m : ℕ) → rest ≡ take (length rest) marks → rest ≡ left ++ (m ∷ [])
+    → (0 < length rest) × (length left ≡ length rest - 1) × (get_or marks (length rest - 1) 0 ≡ m) × (left ≡ take (length left) marks)
+back marks rest left m t p =
+    let l : length rest ≡ length left + 1 = ap length p ∙ length-append left (m ∷ []) in
+    let n : length rest - 1 ≡ length left + 0 = omega (arith, l) in
+    let a : take (length left + 1) marks ≡ left ++ (m ∷ []) = sym (sym p ∙ t ∙ ap (λ (k : ℕ). take k marks) l) in
+    let g : get_or marks (length left + 0) 0 ≡ m =
+    sym (get_or-take (length left + 1) marks (length left + 0) 0 (omega arith)) ∙ ap (λ (xs : List ℕ). get_or xs (length left + 0) 0) a ∙ get_or-append-add left (m ∷ []) 0 0 in
+    let f : left ≡ take (length left) marks =
+    sym (sym (take-take (length left) (length left + 1) marks (omega arith)) ∙ ap (take (length left)) a ∙ take-append-le (length left) left (m ∷ []) (omega arith)
+    ∙ take_all (length left) left (omega arith)) in
+    (omega (arith, l), omega (arith, l), ap (λ (k : ℕ). get_or marks k 0) n ∙ g, f)
 
 -- ---- how many are held, and how many not
 
@@ -140,19 +156,19 @@ among_right h marks wrong among e f l =
 
 module _ (h : Head) (marks out : List ℕ) where
   pub list_wrong : marks_wrong h.size h.n h.m h.s marks ≡ true
-      → ◌≡◌ {A = Answered Listed} (record { answer = Refused Lent; output = out }) (list_missing h marks out)
+      → ◌≡◌ {A = Answered (Result ℕ Reason)} (record { answer = Err Lent; output = out }) (list_missing h marks out)
   unfolding list_missing
   list_wrong e = rw e
 
   module _ (e : marks_wrong h.size h.n h.m h.s marks ≡ false) (among count : ℕ) (listed : missing h.n marks ≡ unheld_from 0 (take among marks))
       (counted : count ≡ length (unheld_from 0 (take among marks))) where
     pub list_short : length out < count
-        → ◌≡◌ {A = Answered Listed} (record { answer = Refused OutputShort; output = out }) (list_missing h marks out)
+        → ◌≡◌ {A = Answered (Result ℕ Reason)} (record { answer = Err OutputShort; output = out }) (list_missing h marks out)
     unfolding list_missing
     list_short l = rw (e, listed, ← counted, lt-ltb _ _ l)
 
     pub list_good : (after : List ℕ) → count ≤ length out → after ≡ put out 0 (unheld_from 0 (take among marks))
-        → ◌≡◌ {A = Answered Listed} (record { answer = Count count; output = after }) (list_missing h marks out)
+        → ◌≡◌ {A = Answered (Result ℕ Reason)} (record { answer = Ok count; output = after }) (list_missing h marks out)
     unfolding list_missing
     list_good after l f = rw (e, listed, f, ← counted, le-ltb _ _ l)
 

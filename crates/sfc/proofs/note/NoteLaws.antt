@@ -9,26 +9,25 @@ use native.Mathlib.Omega.{arith}
 use borrow.Author.Tests.{lt-ltb, le-ltb, eqb-true, not-false}
 use lib.Dec.{eqb, leb}
 use lib.ListN.{length, get_or, set, take, drop, length-append, length-set}
-use Rattle.little.specs.Parts.{part, put}
-use Rattle.little.proofs.Laws.{put_laws, part_laws, test_laws}
+use Rattle.little.specs.Parts.{put}
+use Rattle.little.proofs.Laws.{put_laws, test_laws}
 use Rattle.sfc.specs.session.Lent.{marks_wrong}
 use Rattle.sfc.specs.answer.Numbers.{Answered}
 use Rattle.sfc.specs.note.Missing.{unheld_from, missing}
 use Rattle.sfc.specs.note.Ranges.{Range, ranges, apart_from, maximal, bounds}
-use Rattle.sfc.specs.note.Note.{be, big_bytes, pair_bytes, pairs_bytes, note_of, write_note, uuid_in, count_in, pairs_from, ranges_in, malformed, refused_note, read_note}
+use Rattle.sfc.specs.note.Note.{be, big_bytes, pair_bytes, pairs_bytes, note_of, write_note, uuid_in, count_in, pairs_from, ranges_in, malformed, read_note}
 use Rattle.sfc.specs.declared.format.header.Head.{Head}
 use Rattle.sfc.specs.declared.answer.reason.Reason.TheVariants.{Note, Lent, OutputShort}
-use Rattle.sfc.specs.declared.answer.reason.Checked.TheVariants.{Good}
-use Rattle.sfc.specs.declared.note.resend.NoteRead.{NoteRead}
-use Rattle.sfc.specs.declared.answer.written.Written.{Written}
-use Rattle.sfc.specs.declared.answer.written.Written.TheVariants.{Bytes, Refused as Unwritten}
 use Rattle.sfc.proofs.note.BigLaws.{length_big, drop-put, drop_big, length-put_big}
 use Rattle.sfc.proofs.note.PairLaws.{bounds_long}
+use Rattle.sfc.specs.declared.note.resend.NoteRead.{NoteRead}
+use Rattle.sfc.specs.declared.answer.reason.Reason.{Reason}
+use Rattle.std.specs.Prelude.{Result, Ok, Err}
 
 -- ---- the start of a note
 
 module _ (out a y uuid : List ℕ) (count : ℕ) (h : 23 ≤ length out) (u : length uuid ≡ 16) (ea : a ≡ put out 21 (big_bytes 2 count))
-    (ey : y ≡ take (length uuid) uuid ++ drop (length uuid) (part a 5 (21 - 5))) where
+    (ey : y ≡ uuid) where
   -- what stands once the UUID is there, as the lent part comes back
   abbrev b : List ℕ
   b = take 5 a ++ (y ++ drop (21 - 5) (drop 5 a))
@@ -38,9 +37,7 @@ module _ (out a y uuid : List ℕ) (count : ℕ) (h : 23 ≤ length out) (u : le
 
   uuid_put : b ≡ put a 5 uuid
   uuid_put =
-      let p : length (part a 5 16) ≡ 16 = part_laws.length_part a 5 16 (omega (arith, count-put)) in
-      let e : y ≡ uuid = ey ∙ put_laws.copied uuid (part a 5 16) (p ∙ sym u) in
-      ap (λ (x : List ℕ). take 5 a ++ (x ++ drop 16 (drop 5 a))) e ∙ put_laws.lent a uuid 5 16 u
+      ap (λ (x : List ℕ). take 5 a ++ (x ++ drop 16 (drop 5 a))) ey ∙ put_laws.lent a uuid 5 16 u
 
   pub start_long : length (set (take 5 a ++ (y ++ drop (21 - 5) (drop 5 a))) 4 1) ≡ length out
   start_long =
@@ -83,7 +80,7 @@ length_note uuid rs u =
 
 module _ (h : Head) (marks out : List ℕ) where
   pub write_wrong : marks_wrong h.size h.n h.m h.s marks ≡ true
-      → ◌≡◌ {A = Answered Written} (record { answer = Unwritten Lent; output = out }) (write_note h marks out)
+      → ◌≡◌ {A = Answered (Result ℕ Reason)} (record { answer = Err Lent; output = out }) (write_note h marks out)
   unfolding write_note
   write_wrong e = rw e
 
@@ -93,7 +90,7 @@ module _ (h : Head) (marks out : List ℕ) where
     long = length_note h.uuid (ranges (unheld_from 0 (take among marks))) u ∙ ap (λ (k : ℕ). 23 + 8 * k) (sym counted)
 
     pub write_short : length out < 23 + 8 * count
-        → ◌≡◌ {A = Answered Written} (record { answer = Unwritten OutputShort; output = out }) (write_note h marks out)
+        → ◌≡◌ {A = Answered (Result ℕ Reason)} (record { answer = Err OutputShort; output = out }) (write_note h marks out)
     unfolding write_note
     write_short l = rw (e, listed, long, lt-ltb _ _ l)
 
@@ -107,7 +104,7 @@ module _ (h : Head) (marks out : List ℕ) where
     pub write_good : (between after : List ℕ) → 23 + 8 * count ≤ length out
         → drop 23 between ≡ pairs_bytes (ranges (unheld_from 0 (take among marks))) ++ drop (23 + 8 * count) out
         → after ≡ big_bytes 4 (19 + 8 * count) ++ (1 ∷ (h.uuid ++ (big_bytes 2 count ++ drop 23 between)))
-        → ◌≡◌ {A = Answered Written} (record { answer = Bytes (23 + 8 * count); output = after }) (write_note h marks out)
+        → ◌≡◌ {A = Answered (Result ℕ Reason)} (record { answer = Ok (23 + 8 * count); output = after }) (write_note h marks out)
     unfolding write_note
     write_good between after l eb ea = rw (e, listed, written between after eb ea, long, le-ltb _ _ l)
 
@@ -204,17 +201,17 @@ copy_end b count out₀ out (suc k) h l = absurd (omega arith)
 -- ---- the answers of the reader
 
 module _ (b out : List ℕ) where
-  pub read_bad : (r : NoteRead) → malformed b ≡ true → r ≡ refused_note Note → ◌≡◌ {A = Answered NoteRead} (record { answer = r; output = out }) (read_note b out)
+  pub read_bad : (r : Result NoteRead Reason) → malformed b ≡ true → r ≡ Err Note → ◌≡◌ {A = Answered (Result NoteRead Reason)} (record { answer = r; output = out }) (read_note b out)
   unfolding read_note
   read_bad r e f = rw (f, e)
 
-  pub read_short : (r : NoteRead) (count : ℕ) → malformed b ≡ false → count ≡ count_in b → length out < 2 * count → r ≡ refused_note OutputShort
-      → ◌≡◌ {A = Answered NoteRead} (record { answer = r; output = out }) (read_note b out)
+  pub read_short : (r : Result NoteRead Reason) (count : ℕ) → malformed b ≡ false → count ≡ count_in b → length out < 2 * count → r ≡ Err OutputShort
+      → ◌≡◌ {A = Answered (Result NoteRead Reason)} (record { answer = r; output = out }) (read_note b out)
   unfolding read_note
   read_short r count e ec h f = rw (f, e, ← ec, lt-ltb _ _ h)
 
   pub read_good : (count : ℕ) (uuid after : List ℕ) → malformed b ≡ false → count ≡ count_in b → 2 * count ≤ length out → uuid ≡ uuid_in b
       → after ≡ put out 0 (bounds (pairs_from b 23 count))
-      → ◌≡◌ {A = Answered NoteRead} (record { answer = record { verdict = Good; uuid = uuid; ranges = count }; output = after }) (read_note b out)
+      → ◌≡◌ {A = Answered (Result NoteRead Reason)} (record { answer = Ok (record { uuid = uuid; ranges = count }); output = after }) (read_note b out)
   unfolding read_note
   read_good count uuid after e ec h eu ea = rw (eu, ea, e, ← ec, le-ltb _ _ h)

@@ -8,7 +8,7 @@ use mathlib.Core.Logic.{⊎_elim}
 use native.Mathlib.Omega.{arith}
 use lib.Dec.{eqb}
 use borrow.Author.Tests.{lt-ltb, le-ltb}
-use lib.ListN.{length, get_or, set, take, drop, length-set}
+use lib.ListN.{length, get_or, set, take, drop}
 use lib.Seq.{drop_at, drop-drop}
 use Rattle.little.specs.Parts.{put}
 use Rattle.little.proofs.Laws.{put_laws}
@@ -17,19 +17,15 @@ use Rattle.sfc.specs.session.Lent.{marks_wrong}
 use Rattle.sfc.specs.note.Missing.{unheld_from, missing}
 use Rattle.sfc.specs.note.Ranges.{Range, put_before, ranges, bounds, list_ranges}
 use Rattle.sfc.specs.note.Note.{big_bytes, pair_bytes, pairs_bytes}
-use Rattle.sfc.specs.inner.Index.{index_put}
+use Rattle.sfc.specs.inner.Index.{index_put, IndexPut, begins_at, Layout}
 use Rattle.sfc.specs.declared.format.header.Head.{Head}
 use Rattle.sfc.specs.declared.answer.reason.Reason.TheVariants.{Lent, OutputShort}
-use Rattle.sfc.specs.declared.note.missing.Listed.{Listed}
-use Rattle.sfc.specs.declared.note.missing.Listed.TheVariants.{Count, Refused}
-use Rattle.sfc.proofs.note.BigLaws.{length_big, drop-put, drop_big, length-put_big}
-use Rattle.sfc.proofs.note.RangeLaws.{either, ranges_at, begins_at, begins_some, ranges-part, same-ranges, more_ranges, begins_same, begins_more, joined_more, own_more, none_at-end, begins_end}
+use Rattle.sfc.proofs.note.BigLaws.{length_big, drop-put}
+use Rattle.sfc.proofs.note.RangeLaws.{either, ranges_at, begins_some, ranges-part, same-ranges, more_ranges, begins_same, begins_more, joined_more, own_more, none_at-end, begins_end}
+use Rattle.sfc.specs.declared.answer.reason.Reason.{Reason}
+use Rattle.std.specs.Prelude.{Result, Ok, Err}
 
 -- ---- an index put before pair k, where `at k` is the place of that pair
-
-abbrev pub IndexPut : (ℕ → ℕ) → List ℕ → List ℕ → List ℕ → ℕ → ℕ → Bool → Type 0
-IndexPut at one out after k r joined =
-    (joined ≡ true → r ≡ k) × (joined ≡ false → r + 1 ≡ k) × (drop (at r) after ≡ index_put joined one (drop (at k) out))
 
 module _ (at : ℕ → ℕ) (one out after : List ℕ) (k : ℕ) (joined : Bool) where
   put-joined : joined ≡ true → drop (at k) after ≡ one ++ drop (at k + length one) out → IndexPut at one out after k k joined
@@ -44,48 +40,61 @@ module _ (at : ℕ → ℕ) (one out after : List ℕ) (k : ℕ) (joined : Bool)
   unfolding index_put
   put-own r j f d = (λ g. absurd (let z : ◌≡◌ {A = ℕ} 0 1 = cc in omega arith), λ _. f, rw j d)
 
--- as a note has it: pairs of eight bytes from byte 23 on
-abbrev pub byte_at : ℕ → ℕ
-byte_at k = 23 + 8 * k
+module _ (lay : List Range → List ℕ) (place : ℕ → ℕ) (one : ℕ → List ℕ) (y : Layout lay place one) where
+  rising_by : (b n : ℕ) → place b ≤ place (b + n)
+  rising_by b zero = let e : b + 0 ≡ b = omega arith in rw e (omega arith)
+  rising_by b (suc n) = let e : b + suc n ≡ b + n + 1 = omega arith in rw e (omega (arith, rising_by b n, y.next (b + n) 0))
 
-pub bytes_joined : (out after : List ℕ) (k i : ℕ) (joined : Bool) → joined ≡ true → 27 + 8 * k ≤ length out
-    → after ≡ put out (23 + 8 * k) (big_bytes 4 i) → IndexPut byte_at (big_bytes 4 i) out after k k joined
-bytes_joined out after k i joined j h e =
-    put-joined byte_at (big_bytes 4 i) out after k joined j (ap (drop (23 + 8 * k)) e ∙ drop-put out (23 + 8 * k) (big_bytes 4 i) (omega arith))
+  -- a later bound has no earlier place
+  pub rising : (b c : ℕ) → b ≤ c → place b ≤ place c
+  rising b c h = let e : b + (c - b) ≡ c = omega arith in rw e at (rising_by b (c - b))
 
-pub bytes_own : (out between after : List ℕ) (k r i : ℕ) (joined : Bool) → joined ≡ false → r + 1 ≡ k → 23 + 8 * k ≤ length out
-    → between ≡ put out (27 + 8 * r) (big_bytes 4 i) → after ≡ put between (23 + 8 * r) (big_bytes 4 i)
-    → IndexPut byte_at (big_bytes 4 i) out after k r joined
-bytes_own out between after k r i joined j f h eb ea =
-    let l = length-put_big out between (27 + 8 * r) 4 i (omega arith) eb in
-    put-own byte_at (big_bytes 4 i) out after k joined r j f
-    (drop_big between after (23 + 8 * r) 4 i (27 + 8 * r) (omega arith) (omega arith) ea
-    ∙ ap (λ (x : List ℕ). big_bytes 4 i ++ x) (drop_big out between (27 + 8 * r) 4 i (23 + 8 * k) (omega arith) h eb))
+module _ (lay : List Range → List ℕ) (place : ℕ → ℕ) (one : ℕ → List ℕ) (y : Layout lay place one) (i : ℕ) where
+  bound_long : (out out' : List ℕ) (b : ℕ) → place (b + 1) ≤ length out → out' ≡ put out (place b) (one i) → length out' ≡ length out
+  bound_long out out' b room e = ap length e ∙ put_laws.length-put out (place b) (one i) (omega (arith, y.next b i))
 
--- as bounds: two entries for each pair
-abbrev pub bound_at : ℕ → ℕ
-bound_at k = 2 * k
+  -- what stands from a bound on once it is written
+  bound_there : (out out' : List ℕ) (b : ℕ) → place (b + 1) ≤ length out → out' ≡ put out (place b) (one i) → drop (place b) out' ≡ one i ++ drop (place (b + 1)) out
+  bound_there out out' b room e =
+      ap (drop (place b)) e ∙ drop-put out (place b) (one i) (omega (arith, y.next b i)) ∙ ap (λ (k : ℕ). one i ++ drop k out) (sym (y.next b i))
 
-pub bounds-joined : (out : List ℕ) (k i : ℕ) (joined : Bool) → joined ≡ true → 2 * k < length out
-    → IndexPut bound_at (i ∷ []) out (set out (2 * k) i) k k joined
-bounds-joined out k i joined j h = put-joined bound_at (i ∷ []) out (set out (2 * k) i) k joined j (put_laws.drop-set out (2 * k) i h)
+  module _ (out : List ℕ) (k : ℕ) (joined : Bool) where
+    pub joined_put : (after : List ℕ) → joined ≡ true → place (2 * k + 1) ≤ length out → after ≡ put out (place (2 * k)) (one i)
+        → IndexPut (λ k. place (2 * k)) (one i) out after k k joined
+    joined_put after j room e =
+        put-joined (λ k. place (2 * k)) (one i) out after k joined j
+        (bound_there out after (2 * k) room e ∙ ap (λ (m : ℕ). one i ++ drop m out) (y.next (2 * k) i))
 
-pub bounds-own : (out : List ℕ) (k r i : ℕ) (joined : Bool) → joined ≡ false → r + 1 ≡ k → 2 * k ≤ length out
-    → IndexPut bound_at (i ∷ []) out (set (set out (2 * r + 1) i) (2 * r) i) k r joined
-bounds-own out k r i joined j f h =
-    let l = length-set out (2 * r + 1) i in
-    let n : 2 * r + 1 + 1 ≡ 2 * k = omega arith in
-    put-own bound_at (i ∷ []) out (set (set out (2 * r + 1) i) (2 * r) i) k joined r j f
-    (put_laws.drop-set (set out (2 * r + 1) i) (2 * r) i (omega arith)
-    ∙ ap (λ (x : List ℕ). i ∷ x) (put_laws.drop-set out (2 * r + 1) i (omega arith) ∙ ap (λ (m : ℕ). i ∷ drop m out) n))
+    module _ (r : ℕ) (f : r + 1 ≡ k) (room : place (2 * k) ≤ length out) (between : List ℕ) (eb : between ≡ put out (place (2 * r + 1)) (one i)) where
+      last : 2 * r + 1 + 1 ≡ 2 * k
+      last = omega (arith, f)
+
+      room_last : place (2 * r + 1 + 1) ≤ length out
+      room_last = rw last room
+
+      between_long : length between ≡ length out
+      between_long = bound_long out between (2 * r + 1) room_last eb
+
+      pub room_first : place (2 * r + 1) ≤ length between
+      room_first = omega (arith, between_long, room_last, y.next (2 * r + 1) i)
+
+      module _ (after : List ℕ) (ea : after ≡ put between (place (2 * r)) (one i)) where
+        pub own_long : length after ≡ length out
+        own_long = bound_long between after (2 * r) room_first ea ∙ between_long
+
+        pub own_put : joined ≡ false → IndexPut (λ k. place (2 * k)) (one i) out after k r joined
+        own_put j =
+            put-own (λ k. place (2 * k)) (one i) out after k joined r j f
+            (bound_there between after (2 * r) room_first ea
+            ∙ ap (λ (x : List ℕ). one i ++ x) (bound_there out between (2 * r + 1) room_last eb ∙ ap (λ (m : ℕ). one i ++ drop (place m) out) last))
+
+-- one entry stored is a list of one put there
+pub entry_put : (out : List ℕ) (b i : ℕ) → b + 1 ≤ length out → set out b i ≡ put out b (i ∷ [])
+entry_put [] b i h = absurd (omega arith)
+entry_put (x ∷ out) zero i h = refl
+entry_put (x ∷ out) (suc b) i h = ap (λ (l : List ℕ). x ∷ l) (entry_put out b i (omega arith))
 
 -- ---- ranges laid out, and one index more before them
-
--- `lay` writes ranges with each index as `one` writes it
-pub record Layout (lay : List Range → List ℕ) (one : ℕ → List ℕ) : Type 0 where
-  pub none : lay [] ≡ []
-  pub before : (joined : Bool) (i : ℕ) (rs : List Range) (tail : List ℕ) → joined ≡ begins_at (suc i) rs
-      → index_put joined (one i) (lay rs ++ tail) ≡ lay (put_before i rs) ++ tail
 
 bytes_before : (joined : Bool) (i : ℕ) (rs : List Range) (tail : List ℕ) → joined ≡ begins_at (suc i) rs
     → index_put joined (big_bytes 4 i) (pairs_bytes rs ++ tail) ≡ pairs_bytes (put_before i rs) ++ tail
@@ -100,9 +109,9 @@ bytes_before joined i (r ∷ rs) tail e = rw (e, length_big 4 i) (go (eqb (suc i
         rw (f, drop_at (big_bytes 4 r.first) (big_bytes 4 r.last ++ (pairs_bytes rs ++ tail)) 4 (length_big 4 r.first)) (simp append_assoc)
     go false = simp append_assoc
 
-pub as_bytes : Layout pairs_bytes (big_bytes 4)
+pub as_bytes : Layout pairs_bytes (λ b. 23 + 4 * b) (big_bytes 4)
 unfolding pairs_bytes
-as_bytes = record { none = refl; before = bytes_before }
+as_bytes = record { none = refl; before = bytes_before; next = λ b i. omega (arith, length_big 4 i) }
 
 bounds-before : (joined : Bool) (i : ℕ) (rs : List Range) (tail : List ℕ) → joined ≡ begins_at (suc i) rs
     → index_put joined (i ∷ []) (bounds rs ++ tail) ≡ bounds (put_before i rs) ++ tail
@@ -115,9 +124,9 @@ bounds-before joined i (r ∷ rs) tail e = rw e (go (eqb (suc i) r.first))
     go true = refl
     go false = refl
 
-pub as_bounds : Layout bounds (λ (i : ℕ). i ∷ [])
+pub as_bounds : Layout bounds (λ (b : ℕ). b) (λ (i : ℕ). i ∷ [])
 unfolding bounds
-as_bounds = record { none = refl; before = bounds-before }
+as_bounds = record { none = refl; before = bounds-before; next = λ b i. refl }
 
 -- ---- the loop over the marks
 
@@ -129,7 +138,7 @@ pub record Placing (lay : List Range → List ℕ) (at : ℕ → ℕ) (marks : L
   pub placed : k + length (ranges_at marks i) ≡ count
   pub after : drop (at k) out ≡ lay (ranges_at marks i) ++ drop (at count) out₀
 
-module _ (lay : List Range → List ℕ) (one : ℕ → List ℕ) (at : ℕ → ℕ) (y : Layout lay one) (marks : List ℕ) (count : ℕ) where
+module _ (lay : List Range → List ℕ) (place : ℕ → ℕ) (one : ℕ → List ℕ) (at : ℕ → ℕ) (y : Layout lay place one) (marks : List ℕ) (count : ℕ) where
   pub place_start : (out : List ℕ) → Placing lay at marks count out out count false (length marks)
   place_start out = record {
     within = omega arith;
@@ -200,7 +209,7 @@ bounds_placed rs count out₀ out e f =
 
 module _ (h : Head) (marks out : List ℕ) where
   pub ranges-wrong : marks_wrong h.size h.n h.m h.s marks ≡ true
-      → ◌≡◌ {A = Answered Listed} (record { answer = Refused Lent; output = out }) (list_ranges h marks out)
+      → ◌≡◌ {A = Answered (Result ℕ Reason)} (record { answer = Err Lent; output = out }) (list_ranges h marks out)
   unfolding list_ranges
   ranges-wrong e = rw e
 
@@ -210,11 +219,11 @@ module _ (h : Head) (marks out : List ℕ) where
     long = bounds_long (ranges (unheld_from 0 (take among marks))) ∙ ap (λ (k : ℕ). 2 * k) (sym counted)
 
     pub ranges_short : length out < 2 * count
-        → ◌≡◌ {A = Answered Listed} (record { answer = Refused OutputShort; output = out }) (list_ranges h marks out)
+        → ◌≡◌ {A = Answered (Result ℕ Reason)} (record { answer = Err OutputShort; output = out }) (list_ranges h marks out)
     unfolding list_ranges
     ranges_short l = rw (e, listed, long, lt-ltb _ _ l)
 
     pub ranges_good : (after : List ℕ) → 2 * count ≤ length out → after ≡ put out 0 (bounds (ranges (unheld_from 0 (take among marks))))
-        → ◌≡◌ {A = Answered Listed} (record { answer = Count (2 * count); output = after }) (list_ranges h marks out)
+        → ◌≡◌ {A = Answered (Result ℕ Reason)} (record { answer = Ok (2 * count); output = after }) (list_ranges h marks out)
     unfolding list_ranges
     ranges_good after l f = rw (e, listed, f, long, le-ltb _ _ l)

@@ -12,6 +12,7 @@ use lib.ListN.{length, get_or, drop}
 use Rattle.sfc.specs.session.Marks.{is_held}
 use Rattle.sfc.specs.note.Missing.{unheld_from}
 use Rattle.sfc.specs.note.Ranges.{Range, put_before, ranges}
+use Rattle.sfc.specs.inner.Index.{begins_at}
 use Rattle.sfc.proofs.note.MissingLaws.{unheld_same, unheld_more, unheld_none}
 
 pub either : (b : Bool) → (b ≡ true) ⊎ (b ≡ false)
@@ -21,11 +22,6 @@ either false = inr refl
 -- the ranges that the marks from i on make
 abbrev pub ranges_at : List ℕ → ℕ → List Range
 ranges_at marks i = ranges (unheld_from i (drop i marks))
-
--- whether the first range begins at i
-unfoldable pub begins_at : ℕ → List Range → Bool
-begins_at i [] = false
-begins_at i (r ∷ rs) = eqb i r.first
 
 -- ---- an index put before ranges
 
@@ -191,3 +187,7 @@ module _ (marks : List ℕ) (count : ℕ) (joined : Bool) (i : ℕ) (h : 0 < i) 
 
   pub count_same : (not (eqb (get_or marks (i - 1) 0) 1) && not joined) ≡ false → Counting marks count (not (eqb (get_or marks (i - 1) 0) 1)) (i - 1)
   count_same e = turn (eqb (get_or marks (i - 1) 0) 1) joined refl refl count (rw e)
+
+pub count_end : (marks : List ℕ) (count : ℕ) (joined : Bool) (i : ℕ) → i ≤ 0 → Counting marks count joined i → count ≡ length (ranges (unheld_from 0 marks))
+count_end marks count joined zero h l = l.counted
+count_end marks count joined (suc i) h l = absurd (omega arith)

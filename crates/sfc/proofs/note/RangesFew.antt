@@ -18,13 +18,13 @@ use Rattle.sfc.specs.note.Missing.{unheld_from, missing}
 use Rattle.sfc.specs.note.Ranges.{Range, put_before, ranges, apart_from, bounds, bounds_for, list_ranges}
 use Rattle.sfc.specs.note.NoteTheorems.{RangesFew}
 use Rattle.sfc.specs.declared.format.header.Head.{Head}
-use Rattle.sfc.specs.declared.note.missing.Listed.{Listed}
-use Rattle.sfc.specs.declared.note.missing.Listed.TheVariants.{Count}
 use Rattle.sfc.proofs.session.MarkLaws.{right_marks}
 use Rattle.sfc.proofs.note.MissingLaws.{missing_none, missing-all}
 use Rattle.sfc.proofs.note.MissingExact.{missing_rises}
 use Rattle.sfc.proofs.note.RangesExact.{apart, ranges_exact}
 use Rattle.sfc.proofs.note.PairLaws.{bounds_long}
+use Rattle.sfc.specs.declared.answer.reason.Reason.{Reason}
+use Rattle.std.specs.Prelude.{Result, Ok}
 
 -- each range of indices of so many marks ends among them, and ranges with an index between them are at most half as many
 abbrev pub Ends : ℕ → List Range → Type 0
@@ -75,7 +75,7 @@ bounds-few : (n : ℕ) (marks : List ℕ) → n ≤ 1024 → length (bounds (ran
 bounds-few n marks h = omega (arith, few n marks, bounds_long (ranges (missing n marks)))
 
 ranges-given : (h : Head) (marks out : List ℕ) → marks_wrong h.size h.n h.m h.s marks ≡ false → 1024 ≤ length out
-    → ◌≡◌ {A = Answered Listed} (list_ranges h marks out) (record { answer = Count (length (bounds_for h marks)); output = put out 0 (bounds_for h marks) })
+    → ◌≡◌ {A = Answered (Result ℕ Reason)} (list_ranges h marks out) (record { answer = Ok (length (bounds_for h marks)); output = put out 0 (bounds_for h marks) })
 unfolding list_ranges
 ranges-given h marks out e l =
     let f = bounds-few h.n marks (right_marks h.size h.n h.m h.s marks e).shape.n_most in

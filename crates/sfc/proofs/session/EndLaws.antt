@@ -12,18 +12,17 @@ use lib.Seq.{get_or-set_same, get_or-set_other, ext_get_or}
 use Rattle.little.specs.Parts.{block}
 use Rattle.little.proofs.Laws.{part_laws, block_laws}
 use Rattle.little.specs.Runs.{zeros, same}
-use Rattle.sfc.specs.answer.Numbers.{verdict, passes}
+use Rattle.sfc.specs.answer.Numbers.{verdict, passes, Checked}
 use Rattle.sfc.specs.format.Chunk.{index_of, payload_of, chunk_checks}
 use Rattle.sfc.specs.session.Session.{blank}
 use Rattle.sfc.specs.session.History.{payloads_for, all_same, end_of}
 use Rattle.sfc.specs.session.SessionTheorems.{EndState}
 use Rattle.sfc.specs.declared.format.header.Head.{Head}
-use Rattle.sfc.specs.declared.answer.reason.Checked.{Checked}
-use Rattle.sfc.specs.declared.answer.reason.Checked.TheVariants.{Good, Refused as Wrong}
 use Rattle.sfc.proofs.answer.CheckLaws.{good_passes, wrong_fails}
 use Rattle.sfc.proofs.session.BlockSteps.{done, done_absent, done_copy, done_differs, done_barred, Kept, Sound, done_at, laid_at, keeps}
 use Rattle.sfc.proofs.session.HistoryLaws.{kept_of, kept_wrong, sound, keep, keep_foreign, keep_good, keep_right, good_brings, keep_all, kept-all}
 use Rattle.sfc.proofs.session.RightLaws.{zero-at}
+use Rattle.std.specs.Prelude.{Ok, Err}
 
 -- ---- one block under a list of payloads
 
@@ -80,14 +79,14 @@ module _ (h : Head) (i : ℕ) (inside : i < h.n + h.m) where
     where
       go : (v : Checked) → Dec (index_of c ≡ i) → verdict (chunk_checks h c) ≡ v → there (keep_all h (keep h k c) cs) ≡ done_all (there (keep h k c)) (payloads_for h i cs)
           → there (keep_all h (keep h k c) cs) ≡ done_all (there k) (cond (passes (chunk_checks h c) && eqb (index_of c) i) (payload_of c ∷ payloads_for h i cs) (payloads_for h i cs))
-      go (Wrong r) d f ih = rw (wrong_fails (chunk_checks h c) r f) (ih ∙ ap (λ (l : Kept). done_all (there l) (payloads_for h i cs)) (keep_foreign h k c r f))
-      go Good (yes d) f ih =
+      go (Err r) d f ih = rw (wrong_fails (chunk_checks h c) r f) (ih ∙ ap (λ (l : Kept). done_all (there l) (payloads_for h i cs)) (keep_foreign h k c r f))
+      go (Ok tt) (yes d) f ih =
           let b = good_brings h k c e f in
           rw (good_passes (chunk_checks h c) f, eq-eqb (index_of c) i d)
           (ih ∙ ap (λ (l : Kept). done_all (there l) (payloads_for h i cs)) (keep_good h k c e f)
           ∙ ap (λ (j : ℕ). done_all (there (laid_at h.s (h.n + h.m) k j (payload_of c))) (payloads_for h i cs)) d
           ∙ ap (λ (y : List ℕ × ℕ). done_all y (payloads_for h i cs)) (here k (sound h k e) (payload_of c) b.long))
-      go Good (no d) f ih =
+      go (Ok tt) (no d) f ih =
           let b = good_brings h k c e f in
           rw (good_passes (chunk_checks h c) f, ne_eqb (index_of c) i d)
           (ih ∙ ap (λ (l : Kept). done_all (there l) (payloads_for h i cs)) (keep_good h k c e f)
@@ -100,9 +99,9 @@ module _ (h : Head) (i : ℕ) (inside : i < h.n + h.m) where
     where
       go : (v : Checked) (t : Bool) → verdict (chunk_checks h c) ≡ v → FirstLong h.s (payloads_for h i cs)
           → FirstLong h.s (cond (passes (chunk_checks h c) && t) (payload_of c ∷ payloads_for h i cs) (payloads_for h i cs))
-      go (Wrong r) t f ih = rw (wrong_fails (chunk_checks h c) r f) ih
-      go Good true f ih = rw (good_passes (chunk_checks h c) f) (good_brings h k c e f).long
-      go Good false f ih = rw (good_passes (chunk_checks h c) f) ih
+      go (Err r) t f ih = rw (wrong_fails (chunk_checks h c) r f) ih
+      go (Ok u) true f ih = rw (good_passes (chunk_checks h c) f) (good_brings h k c e f).long
+      go (Ok u) false f ih = rw (good_passes (chunk_checks h c) f) ih
 
 -- ---- a session that starts blank
 

@@ -13,7 +13,7 @@ use lib.Seq.{set-get_or, get_or-set_other, set_comm}
 use Rattle.little.specs.Parts.{put_block}
 use Rattle.little.proofs.Laws.{part_laws, put_laws, test_laws}
 use Rattle.little.specs.Runs.{zeros, same}
-use Rattle.sfc.specs.answer.Numbers.{verdict, number_of}
+use Rattle.sfc.specs.answer.Numbers.{verdict, number_of, Checked}
 use Rattle.sfc.specs.session.Lent.{shape_wrong, marks_wrong, lent_wrong}
 use Rattle.sfc.specs.session.Marks.{marks_known}
 use Rattle.sfc.specs.format.Chunk.{index_of, payload_length, payload_of, chunk_checks}
@@ -27,13 +27,12 @@ use Rattle.sfc.specs.declared.format.header.Head.{Head}
 use Rattle.sfc.specs.declared.session.tallies.Tallies.{Tallies}
 use Rattle.sfc.specs.declared.answer.reason.Reason.{Reason}
 use Rattle.sfc.specs.declared.answer.reason.Reason.TheVariants.{Conflict, Barred}
-use Rattle.sfc.specs.declared.answer.reason.Checked.{Checked}
-use Rattle.sfc.specs.declared.answer.reason.Checked.TheVariants.{Good, Refused as Wrong}
 use Rattle.sfc.specs.declared.session.offer.Verdict.{Verdict}
 use Rattle.sfc.specs.declared.session.offer.Verdict.TheVariants.{Fresh, Repeat, Refused}
 use Rattle.sfc.proofs.session.SessionLaws.{right_lent, Facts, facts, after_by, judged-session, lent_refused, chunk_refused, verdict-fresh, verdict_repeat, verdict_conflict, verdict_barred}
 use Rattle.sfc.proofs.session.MarkLaws.{fit_at, fit_all}
 use Rattle.sfc.proofs.session.BlockSteps.{done, done_absent, done_copy, done_differs, done_barred, Kept, Sound, laid_at, laid_sound, laid_swap}
+use Rattle.std.specs.Prelude.{Ok, Err}
 
 -- ---- what is lent rightly, as facts
 
@@ -83,8 +82,8 @@ module _ (h : Head) where
   -- ---- one offer, on store and marks alone
 
   pub keep_by : Checked → Kept → List ℕ → Kept
-  keep_by Good k c = laid_at h.s (h.n + h.m) k (index_of c) (payload_of c)
-  keep_by (Wrong r) k c = k
+  keep_by (Ok u) k c = laid_at h.s (h.n + h.m) k (index_of c) (payload_of c)
+  keep_by (Err r) k c = k
 
   pub keep : Kept → List ℕ → Kept
   keep k c = cond (kept_wrong k) k (keep_by (verdict (chunk_checks h c)) k c)
@@ -147,15 +146,15 @@ module _ (h : Head) where
     where
       go : (t : Bool) (v : Checked) → session_wrong h x ≡ t → verdict (chunk_checks h c) ≡ v → kept_of (after h x c) ≡ cond (kept_wrong (kept_of x)) (kept_of x) (keep_by (verdict (chunk_checks h c)) (kept_of x) c)
       go true v e g = ap kept_of (sym (judged-session h x c)) ∙ ap (λ o. kept_of o.session) (sym (lent_refused h x c e)) ∙ (rw e)
-      go false (Wrong r) e g =
+      go false (Err r) e g =
           ap kept_of (sym (judged-session h x c)) ∙ ap (λ o. kept_of o.session) (sym (chunk_refused h x c e f r g (counted_refusal x.tallies (number_of r)) refl)) ∙ (rw (e, g))
-      go false Good e g = welcome-kept x c (record { lent = e; room = f; whole = g }) ∙ (rw (e, g))
+      go false (Ok u) e g = welcome-kept x c (record { lent = e; room = f; whole = g }) ∙ (rw (e, g))
 
   pub keep-wrong : (k : Kept) (c : List ℕ) → kept_wrong k ≡ true → keep k c ≡ k
   unfolding keep
   keep-wrong k c e = rw e
 
-  pub keep_foreign : (k : Kept) (c : List ℕ) (r : Reason) → verdict (chunk_checks h c) ≡ Wrong r → keep k c ≡ k
+  pub keep_foreign : (k : Kept) (c : List ℕ) (r : Reason) → verdict (chunk_checks h c) ≡ Err r → keep k c ≡ k
   unfolding keep keep_by
   keep_foreign k c r e = rw e (both (kept_wrong k))
     where
@@ -163,12 +162,12 @@ module _ (h : Head) where
       both true = refl
       both false = refl
 
-  pub keep_good : (k : Kept) (c : List ℕ) → kept_wrong k ≡ false → verdict (chunk_checks h c) ≡ Good → keep k c ≡ laid_at h.s (h.n + h.m) k (index_of c) (payload_of c)
+  pub keep_good : (k : Kept) (c : List ℕ) → kept_wrong k ≡ false → verdict (chunk_checks h c) ≡ Ok tt → keep k c ≡ laid_at h.s (h.n + h.m) k (index_of c) (payload_of c)
   unfolding keep keep_by
   keep_good k c e f = rw (e, f)
 
   -- what a good chunk brings, whatever is lent
-  pub good_brings : (k : Kept) (c : List ℕ) → kept_wrong k ≡ false → verdict (chunk_checks h c) ≡ Good → Brings c
+  pub good_brings : (k : Kept) (c : List ℕ) → kept_wrong k ≡ false → verdict (chunk_checks h c) ≡ Ok tt → Brings c
   good_brings k c e f = brings (record { store = k.store; marks = k.marks; tallies = no_tallies }) c (record { lent = e; room = none_full; whole = f })
 
   -- what is right stays right
@@ -176,8 +175,8 @@ module _ (h : Head) where
   keep_right k c e = go (verdict (chunk_checks h c)) refl
     where
       go : (v : Checked) → verdict (chunk_checks h c) ≡ v → kept_wrong (keep k c) ≡ false
-      go (Wrong r) f = rw (keep_foreign k c r f) e
-      go Good f =
+      go (Err r) f = rw (keep_foreign k c r f) e
+      go (Ok tt) f =
           let b = good_brings k c e f in
           rw (keep_good k c e f) (right_again k _ e (laid_sound h.s (h.n + h.m) k (sound k e) (index_of c) b.inside (payload_of c) b.long))
 
@@ -186,9 +185,9 @@ module _ (h : Head) where
     where
       go : (t : Bool) (u v : Checked) → kept_wrong k ≡ t → verdict (chunk_checks h c) ≡ u → verdict (chunk_checks h d) ≡ v → keep (keep k c) d ≡ keep (keep k d) c
       go true u v e f g = rw (keep-wrong k c e, keep-wrong k d e, keep-wrong k c e)
-      go false (Wrong r) v e f g = rw (keep_foreign k c r f, keep_foreign (keep k d) c r f)
-      go false Good (Wrong q) e f g = rw (keep_foreign k d q g, keep_foreign (keep k c) d q g)
-      go false Good Good e f g =
+      go false (Err r) v e f g = rw (keep_foreign k c r f, keep_foreign (keep k d) c r f)
+      go false (Ok u) (Err q) e f g = rw (keep_foreign k d q g, keep_foreign (keep k c) d q g)
+      go false (Ok u) (Ok w) e f g =
           let b = good_brings k c e f in
           let b' = good_brings k d e g in
           rw (
@@ -213,7 +212,7 @@ module _ (h : Head) where
   any_order k (Permᴰ.trans d d') = any_order k d ∙ any_order k d'
 
   -- a chunk that is refused by itself may be left out
-  pub without : (k : Kept) (cs ds : List (List ℕ)) (c : List ℕ) (r : Reason) → verdict (chunk_checks h c) ≡ Wrong r → keep_all k (cs ++ (c ∷ ds)) ≡ keep_all k (cs ++ ds)
+  pub without : (k : Kept) (cs ds : List (List ℕ)) (c : List ℕ) (r : Reason) → verdict (chunk_checks h c) ≡ Err r → keep_all k (cs ++ (c ∷ ds)) ≡ keep_all k (cs ++ ds)
   unfolding keep_all
   without k [] ds c r e = ap (λ (l : Kept). keep_all l ds) (keep_foreign k c r e)
   without k (b ∷ cs) ds c r e = without (keep k b) cs ds c r e
@@ -395,7 +394,7 @@ unfolding keep_all
 right_all h k [] e = e
 right_all h k (c ∷ cs) e = right_all h (keep h k c) cs (keep_right h k c e)
 
-pub foreign_removable : (h : Head) (x : Session) (cs ds : List (List ℕ)) (c : List ℕ) (r : Reason) → verdict (chunk_checks h c) ≡ Wrong r → session_wrong h x ≡ false
+pub foreign_removable : (h : Head) (x : Session) (cs ds : List (List ℕ)) (c : List ℕ) (r : Reason) → verdict (chunk_checks h c) ≡ Err r → session_wrong h x ≡ false
     → ShortOf43 x (length (cs ++ (c ∷ ds)))
     → SameKept (after_all h x (cs ++ ds)) (after_all h x (cs ++ (c ∷ ds)))
     × ((after_all h x (cs ++ (c ∷ ds))).tallies ≡ counted (after_all h x (cs ++ ds)).tallies (Refused r))

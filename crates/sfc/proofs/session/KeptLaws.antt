@@ -20,10 +20,10 @@ use Rattle.sfc.specs.session.Offer.{Logged, logged, beside_wrong, offer_verdict,
 use Rattle.sfc.specs.give.TurnTheorems.{Anew, AsBefore, OwnOffer, Restart}
 use Rattle.sfc.specs.declared.format.header.Head.{Head}
 use Rattle.sfc.specs.declared.answer.reason.Reason.TheVariants.{Lent as LentWrong}
-use Rattle.sfc.specs.declared.answer.places.Spot.{Spot}
-use Rattle.sfc.specs.declared.answer.places.Spot.TheVariants.{Nowhere}
 use Rattle.sfc.specs.declared.session.offer.Verdict.{Verdict}
 use Rattle.sfc.specs.declared.session.offer.Verdict.TheVariants.{Fresh, Repeat, Refused}
+use Rattle.sfc.specs.declared.answer.places.BytePlace.{BytePlace}
+use Rattle.std.specs.Prelude.{Option, None}
 
 -- ---- 71, of what is kept beside
 
@@ -104,7 +104,7 @@ own_offers h y (c ∷ cs) e =
 -- ---- an offer as the code finds it
 
 -- 71 for what is kept beside changes nothing
-pub offered-beside : (h : Head) (y : Logged) (c : List ℕ) → beside_wrong h y ≡ true → offered_of y (Refused LentWrong) Nowhere ≡ offered h y c
+pub offered-beside : (h : Head) (y : Logged) (c : List ℕ) → beside_wrong h y ≡ true → offered_of y (Refused LentWrong) None ≡ offered h y c
 unfolding offered logged_after offer_verdict settled counted counted_refusal restarts spot_of spot_for
 offered-beside h y c e = rw e
 
@@ -121,7 +121,7 @@ module _ (h : Head) (y : Logged) (c : List ℕ) (right : beside_wrong h y ≡ fa
   unfolding judged
   same-session = ap (λ (z : Judged). z.session) e ∙ sym (own_offer h y c right).session
 
-  pub offered-judged : (p : Spot) (scratch : List ℕ) (f : ℕ) → p ≡ spot_of h c j.verdict → scratch ≡ scratch_after y.scratch j.verdict
+  pub offered-judged : (p : Option BytePlace) (scratch : List ℕ) (f : ℕ) → p ≡ spot_of h c j.verdict → scratch ≡ scratch_after y.scratch j.verdict
       → f ≡ finished_after y.finished j.verdict → offered_of (logged j.session scratch f) j.verdict p ≡ offered h y c
   unfolding offered logged_after
   offered-judged p scratch f ep es ef =

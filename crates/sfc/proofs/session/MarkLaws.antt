@@ -1,15 +1,16 @@
--- What 71 lets through of the numbers handed in and of the marks, and a turn of the loop over marks. Assumes nothing.
-use Prim.Native.Nat.{ℕ, zero, suc, ◌+◌, ◌-◌, ◌*◌, ◌%◌, ◌<◌, ◌≤◌}
-use mathlib.Core.Path.{◌≡◌, refl}
+-- What 71 lets through of the numbers handed in and of the marks, and what the walks over marks compute. Assumes nothing.
+use Prim.Native.Nat.{ℕ, zero, suc, ◌+◌, ◌*◌, ◌%◌, ◌<◌, ◌≤◌}
+use mathlib.Core.Path.{◌≡◌, refl, sym, ap}
 use mathlib.Core.Bool.{Bool, true, false, not, ◌&&◌, ◌||◌}
 use mathlib.Core.List.{List, [], ◌∷◌}
 use native.Mathlib.Nat.{mul-le-mul}
 use native.Mathlib.Omega.{arith}
-use borrow.Author.Tests.{eq-eqb, ne_eqb, eqb-true, ltb-true, ltb-false, lt-ltb, not-false}
+use borrow.Author.Tests.{eqb-true, ltb-true, ltb-false, lt-ltb, not-false}
 use lib.Dec.{eqb, ltb}
-use lib.ListN.{length, get_or, drop}
-use lib.Seq.{drop-length}
-use Rattle.little.proofs.Laws.{part_laws, test_laws}
+use lib.ListN.{length, get_or}
+use Rattle.std.specs.List.{list_all, count_by}
+use Rattle.std.proofs.lemmas.List.Recursion.{is_count_by}
+use Rattle.little.proofs.Laws.{test_laws}
 use Rattle.sfc.specs.format.Limits.{unlawful, above_house, wanted_blocks}
 use Rattle.sfc.specs.session.Lent.{shape_wrong, marks_wrong}
 use Rattle.sfc.specs.session.Marks.{barred_count, marks_known}
@@ -70,26 +71,12 @@ unfolding marks_known
 fit_all [] f = refl
 fit_all (k ∷ marks) f = rw (lt-ltb k 3 (f 0), fit_all marks (λ i. f (suc i)))
 
-pub fit_start : (marks : List ℕ) → true ≡ marks_known (drop (length marks) marks)
+-- the library's words for the two walks over marks
+pub all_known : (marks : List ℕ) → list_all (λ mark. ltb mark 3) marks ≡ marks_known marks
 unfolding marks_known
-fit_start marks = rw drop-length
+all_known [] = refl
+all_known (k ∷ marks) = ap (λ (t : Bool). ltb k 3 && t) (all_known marks)
 
-pub fit_turn : (marks : List ℕ) (i : ℕ) (fit : Bool) → 0 < i → i ≤ length marks → fit ≡ marks_known (drop i marks)
-    → (ltb (get_or marks (i - 1) 0) 3 && fit) ≡ marks_known (drop (i - 1) marks)
-unfolding marks_known
-fit_turn marks i fit h k e = rw (part_laws.drop_down marks i h k, e)
-
--- ---- how many are barred, for a loop that counts i down
-
-pub barred_start : (xs : List ℕ) → 0 ≡ barred_count (drop (length xs) xs)
+pub counted_barred : (marks : List ℕ) → count_by (λ mark. eqb mark 2) marks ≡ barred_count marks
 unfolding barred_count
-barred_start xs = rw drop-length
-
-module _ (xs : List ℕ) (i : ℕ) (h : 0 < i) (k : i ≤ length xs) where
-  pub barred_more : (n : ℕ) → get_or xs (i - 1) 0 ≡ 2 → n ≡ barred_count (drop i xs) → n + 1 ≡ barred_count (drop (i - 1) xs)
-  unfolding barred_count
-  barred_more n e f = rw (part_laws.drop_down xs i h k, eq-eqb _ _ e) (omega arith)
-
-  pub barred_same : (n : ℕ) → (get_or xs (i - 1) 0 ≡ 2 → ⊥) → n ≡ barred_count (drop i xs) → n ≡ barred_count (drop (i - 1) xs)
-  unfolding barred_count
-  barred_same n e f = rw (part_laws.drop_down xs i h k, ne_eqb _ _ e) f
+counted_barred marks = sym (is_count_by barred_count (λ mark. eqb mark 2) refl (λ mark rest. let e : 1 + barred_count rest ≡ suc (barred_count rest) = omega arith in rw e) marks)

@@ -13,7 +13,7 @@ use lib.Seq.{get_or-set_same, get_or-set_other, set_out}
 use Rattle.little.specs.Parts.{block}
 use Rattle.little.specs.Runs.{same}
 use Rattle.little.proofs.Laws.{test_laws, same_laws}
-use Rattle.sfc.specs.answer.Numbers.{verdict, passes, number_of}
+use Rattle.sfc.specs.answer.Numbers.{verdict, passes, number_of, Checked}
 use Rattle.sfc.specs.answer.Places.{number, place}
 use Rattle.sfc.specs.format.Chunk.{index_of, payload_of, chunk_checks}
 use Rattle.sfc.specs.session.Lent.{shape_wrong}
@@ -27,8 +27,6 @@ use Rattle.sfc.specs.declared.format.header.Head.{Head}
 use Rattle.sfc.specs.declared.session.tallies.Tallies.{Tallies}
 use Rattle.sfc.specs.declared.answer.reason.Reason.{Reason}
 use Rattle.sfc.specs.declared.answer.reason.Reason.TheVariants.{Conflict, Barred}
-use Rattle.sfc.specs.declared.answer.reason.Checked.{Checked}
-use Rattle.sfc.specs.declared.answer.reason.Checked.TheVariants.{Good, Refused as Wrong}
 use Rattle.sfc.specs.declared.session.offer.Verdict.{Verdict}
 use Rattle.sfc.specs.declared.session.offer.Verdict.TheVariants.{Fresh, Repeat, Refused}
 use Rattle.sfc.proofs.answer.CheckLaws.{passes_good, good_passes, refused_then}
@@ -41,6 +39,7 @@ use Rattle.sfc.proofs.session.CountLaws.{tallies_count}
 use Rattle.sfc.proofs.session.TallyMarks.{fresh-counts, conflicts_count}
 use Rattle.sfc.proofs.session.RightLaws.{zero-at, blank_right}
 use Rattle.sfc.proofs.writing.ChunkBack.{Made, index_back, payload-back, chunk_good}
+use Rattle.std.specs.Prelude.{Ok, Err}
 
 -- ---- the tallies of a history are counted from its verdicts
 
@@ -181,8 +180,8 @@ module _ (h : Head) (u : length h.uuid ≡ 16) (w : shape_wrong h.size h.n h.m h
 module _ (h : Head) (k : ℕ) (alone : OfChunkAlone k) where
   -- whether a chunk's own checks refuse it by k
   unfoldable by_itself : Checked → Bool
-  by_itself Good = false
-  by_itself (Wrong r) = eqb (number_of r) k
+  by_itself (Ok u) = false
+  by_itself (Err r) = eqb (number_of r) k
 
   -- how many of some chunks, each counted as u
   unfoldable counts : ℕ → List (List ℕ) → ℕ
@@ -209,8 +208,8 @@ module _ (h : Head) (k : ℕ) (alone : OfChunkAlone k) where
   refused_alike x c r f = go (verdict (chunk_checks h c)) refl
     where
       go : (v : Checked) → verdict (chunk_checks h c) ≡ v → is_refusal k (verdict_of h x c) ≡ by_itself (verdict (chunk_checks h c))
-      go (Wrong q) e = rw e (ap (is_refusal k) (past_two h x c r f ∙ refused_then Refused (chunk_checks h c) (mark_checks h x c) (welcomed h x c) q e))
-      go Good e =
+      go (Err q) e = rw e (ap (is_refusal k) (past_two h x c r f ∙ refused_then Refused (chunk_checks h c) (mark_checks h x c) (welcomed h x c) q e))
+      go (Ok tt) e =
           let barred = eqb (mark x (index_of c)) 2 in
           let other = eqb (mark x (index_of c)) 1 && not (same (block_of h x (index_of c)) (payload_of c)) in
           let absent = eqb (mark x (index_of c)) 0 in

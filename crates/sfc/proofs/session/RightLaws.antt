@@ -10,23 +10,21 @@ use lib.ListN.{get_or, length-replicate}
 use Rattle.little.specs.Fields.{Bytes}
 use Rattle.little.proofs.Laws.{byte_laws}
 use Rattle.little.specs.Runs.{zeros}
-use Rattle.sfc.specs.answer.Numbers.{number_of}
+use Rattle.sfc.specs.answer.Numbers.{number_of, Checked}
 use Rattle.sfc.specs.session.Lent.{shape_wrong, marks_wrong, lent_wrong}
-use Rattle.sfc.specs.format.Header.{region_of, head_of, header_checks, refused_header, accepted_header, read_header}
+use Rattle.sfc.specs.format.Header.{region_of, head_of, header_checks, read_header, header_verdict}
 use Rattle.sfc.specs.format.Chunk.{index_of, payload_length, payload_of}
 use Rattle.sfc.specs.session.Session.{Session, blank, verdict_of, with_block, settled, after}
 use Rattle.sfc.specs.session.History.{after_all}
 use Rattle.sfc.specs.demand.Demand3.{Right, AllBytes}
 use Rattle.sfc.specs.declared.format.header.Head.{Head}
-use Rattle.sfc.specs.declared.format.header.HeaderRead.{HeaderRead}
-use Rattle.sfc.specs.declared.answer.reason.Checked.{Checked}
-use Rattle.sfc.specs.declared.answer.reason.Checked.TheVariants.{Good, Refused as Wrong}
 use Rattle.sfc.specs.declared.session.offer.Verdict.{Verdict}
 use Rattle.sfc.specs.declared.session.offer.Verdict.TheVariants.{Fresh, Repeat, Refused}
 use Rattle.sfc.specs.declared.answer.reason.Reason.{Reason}
 use Rattle.sfc.proofs.answer.CheckLaws.{let_through}
 use Rattle.sfc.proofs.session.MarkLaws.{fit_all}
 use Rattle.sfc.proofs.session.OfferLaws.{one_offer}
+use Rattle.std.specs.Prelude.{Result, Ok, Err}
 
 -- ---- zeros
 
@@ -40,17 +38,19 @@ bytes_zeros n i = omega (arith, zero-at n i)
 
 -- ---- a blank session of an accepted header
 
-no_refusal : (r : Reason) (h : Head) → refused_header r ≡ accepted_header h → ⊥
+no_refusal : (r : Reason) (h : Head) → Err r ≡ Ok h → ⊥
 no_refusal r h e =
-    let v : ◌≡◌ {A = Checked} (Wrong r) Good = ap (λ (x : HeaderRead). x.verdict) e in
+    let v : ◌≡◌ {A = Checked} (Err r) (Ok tt) = ap header_verdict e in
     let z : ◌≡◌ {A = ℕ} 0 1 = cc in omega arith
 
-pub accepted_shape : (b : List ℕ) (h : Head) → read_header b ≡ accepted_header h → shape_wrong h.size h.n h.m h.s ≡ false
+pub accepted_shape : (b : List ℕ) (h : Head) → read_header b ≡ Ok h → shape_wrong h.size h.n h.m h.s ≡ false
 unfolding read_header shape_wrong
 accepted_shape b h e =
-    let t = let_through refused_header (header_checks b) (accepted_header (head_of (region_of b))) (accepted_header h) (λ r. no_refusal r h) e in
+    let t = let_through Err (header_checks b) (Ok (head_of (region_of b))) (Ok h) (λ r. no_refusal r h) e in
     let u = t.0.1.1.1.1.1 in
-    subst (λ (g : Head). shape_wrong g.size g.n g.m g.s ≡ false) (ap (λ (r : HeaderRead). r.head) t.1) (rw (u.0, u.1.0))
+    let g : ◌≡◌ {A = Result Head Reason} (Ok (head_of (region_of b))) (Ok h) = t.1 in
+    let q : head_of (region_of b) ≡ h = cc in
+    subst (λ (g : Head). shape_wrong g.size g.n g.m g.s ≡ false) q (rw (u.0, u.1.0))
 
 pub blank_right : (h : Head) → shape_wrong h.size h.n h.m h.s ≡ false → Right h (blank h)
 unfolding lent_wrong marks_wrong
@@ -87,5 +87,5 @@ unfolding after_all
 all_right h x [] b r = r
 all_right h x (c ∷ cs) b r = all_right h (after h x c) cs b.1 (after_right h x c (byte_laws.bytes_part c 48 (payload_length c) b.0) r)
 
-pub accepted_right : (b : List ℕ) (h : Head) → read_header b ≡ accepted_header h → (cs : List (List ℕ)) → AllBytes cs → Right h (after_all h (blank h) cs)
+pub accepted_right : (b : List ℕ) (h : Head) → read_header b ≡ Ok h → (cs : List (List ℕ)) → AllBytes cs → Right h (after_all h (blank h) cs)
 accepted_right b h e cs a = all_right h (blank h) cs a (blank_right h (accepted_shape b h e))

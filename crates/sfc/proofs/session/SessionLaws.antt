@@ -22,13 +22,13 @@ use Rattle.sfc.specs.declared.format.header.Head.{Head}
 use Rattle.sfc.specs.declared.session.tallies.Tallies.{Tallies}
 use Rattle.sfc.specs.declared.answer.reason.Reason.{Reason}
 use Rattle.sfc.specs.declared.answer.reason.Reason.TheVariants.{Lent, TallyFull, Conflict, Barred}
-use Rattle.sfc.specs.declared.answer.reason.Checked.TheVariants.{Refused as Wrong}
 use Rattle.sfc.specs.declared.session.offer.Verdict.{Verdict}
 use Rattle.sfc.specs.declared.session.offer.Verdict.TheVariants.{Fresh, Repeat, Refused}
 use Rattle.sfc.specs.declared.session.offer.Step.{Step}
 use Rattle.sfc.specs.declared.session.offer.Step.TheVariants.{Laid, Copy, Differs, Barred as StepBarred}
 use Rattle.sfc.proofs.answer.CheckLaws.{passed, good_then, refused_then}
 use Rattle.sfc.proofs.session.MarkLaws.{right_marks, fit_at}
+use Rattle.std.specs.Prelude.{Err}
 
 -- ---- what 71 lets through
 
@@ -138,7 +138,7 @@ between k t = go (leb 30 k) (leb k 40) refl refl t
     go false b e f t = absurd t
 
 -- the number of a refusal is one of the list's
-pub number_in : (P : ℕ → Type 0) (cs : List Check) (r : Reason) → NumbersAre P cs → verdict cs ≡ Wrong r → P (number_of r)
+pub number_in : (P : ℕ → Type 0) (cs : List Check) (r : Reason) → NumbersAre P cs → verdict cs ≡ Err r → P (number_of r)
 number_in P [] r o e = absurd (let z : ◌≡◌ {A = ℕ} 0 1 = cc in omega arith)
 number_in P ((true, k) ∷ cs) r o e = let f : reason_of k ≡ r = cc in subst (λ (q : Reason). P (number_of q)) f o.0
 number_in P ((false, k) ∷ cs) r o e = number_in P cs r o.1 e
@@ -178,12 +178,12 @@ module _ (h : Head) (x : Session) (c : List ℕ) where
   past_two e f = rw (e, f)
 
   -- a chunk's own refusals are 30 to 40
-  pub chunk-number : (r : Reason) → verdict (chunk_checks h c) ≡ Wrong r → (30 ≤ number_of r) × (number_of r ≤ 40)
+  pub chunk-number : (r : Reason) → verdict (chunk_checks h c) ≡ Err r → (30 ≤ number_of r) × (number_of r ≤ 40)
   chunk-number r e =
       number_in (λ (k : ℕ). (30 ≤ k) × (k ≤ 40)) (chunk_checks h c) r
       (between 30 tt, (between 31 tt, (between 32 tt, (between 30 tt, (between 33 tt, (between 34 tt, (between 35 tt, (between 36 tt, (between 37 tt, (between 38 tt, (between 39 tt, (between 40 tt, tt)))))))))))) e
 
-  pub chunk_refused : session_wrong h x ≡ false → tally_full x.tallies ≡ false → (r : Reason) → verdict (chunk_checks h c) ≡ Wrong r → (t : Tallies)
+  pub chunk_refused : session_wrong h x ≡ false → tally_full x.tallies ≡ false → (r : Reason) → verdict (chunk_checks h c) ≡ Err r → (t : Tallies)
       → t ≡ counted_refusal x.tallies (number_of r) → judged_of x.store x.marks t (Refused r) ≡ judged h x c
   chunk_refused e f r g t et =
       ap (λ (u : Tallies). judged_of x.store x.marks u (Refused r)) et
@@ -273,8 +273,8 @@ module _ (h : Head) (x : Session) (c : List ℕ) where
 -- ---- what the code's needs ask
 
 -- a payload copied over the whole block
-pub block-laid : (k : ℕ) (b p u : List ℕ) → k ≡ 0 → length b ≡ length p → u ≡ take (length p) p ++ drop (length p) b → made u Laid ≡ stepped k b p
-block-laid k b p u e l q = ap (λ (v : List ℕ). made v Laid) (q ∙ put_laws.copied p b l) ∙ step_laid k b p e
+pub block-laid : (k : ℕ) (b p u : List ℕ) → k ≡ 0 → u ≡ p → made u Laid ≡ stepped k b p
+block-laid k b p u e q = ap (λ (v : List ℕ). made v Laid) q ∙ step_laid k b p e
 
 pub record InStore (h : Head) (x : Session) (c : List ℕ) (i : ℕ) : Type 0 where
   pub end_in : i * h.s + h.s ≤ length x.store

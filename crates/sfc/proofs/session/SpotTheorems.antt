@@ -24,18 +24,17 @@ use Rattle.sfc.specs.declared.format.header.Head.{Head}
 use Rattle.sfc.specs.declared.answer.reason.Reason.{Reason}
 use Rattle.sfc.specs.declared.answer.places.BlockNumber.{BlockNumber}
 use Rattle.sfc.specs.declared.answer.places.BytePlace.{BytePlace}
-use Rattle.sfc.specs.declared.answer.places.Spot.{Spot}
-use Rattle.sfc.specs.declared.answer.places.Spot.TheVariants.{Nowhere}
 use Rattle.sfc.specs.declared.session.offer.Verdict.TheVariants.{Fresh, Repeat, Refused}
 use Rattle.sfc.proofs.answer.CheckLaws.{EachHeld, number-held, blamed}
 use Rattle.sfc.proofs.format.SpotLaws.{agreeing_short, agreeing_inside, first-wrong, number_apart}
 use Rattle.sfc.proofs.session.MarkLaws.{right_shape}
 use Rattle.sfc.proofs.session.BreakLaws.{check_refused, kept_refused, offer_spot, Own, own_check, own-kept}
+use Rattle.std.specs.Prelude.{Option, None}
 
 at_one : (p q : ℕ) → spot_at p ≡ spot_at q → p ≡ q
 at_one p q e = let b : place p ≡ place q = cc in ap (λ (x : BytePlace). x.0) b
 
-nowhere_not : {A : Type 0} (p : ℕ) → spot_at p ≡ Nowhere → A
+nowhere_not : {A : Type 0} (p : ℕ) → spot_at p ≡ None → A
 nowhere_not p e = absurd (let z : ◌≡◌ {A = ℕ} 0 1 = cc in omega arith)
 
 -- a fact of each number in two lists, one after the other
@@ -45,7 +44,7 @@ each_then P (c ∷ cs) ds o d = (o.0, λ e. each_then P cs ds (o.1 e) (λ w. d (
 
 -- ---- what a refusal gives, whichever call it is of
 
-module _ (h : Head) (c : List ℕ) (r : Reason) (p : Spot) where
+module _ (h : Head) (c : List ℕ) (r : Reason) (p : Option BytePlace) where
   -- the place is that of the number
   given_spot : Gives h c r p → p ≡ spot_for h c (number_of r)
   unfolding offered spot_of
@@ -70,7 +69,7 @@ module _ (h : Head) (c : List ℕ) (r : Reason) (p : Spot) where
 
 -- ---- the table
 
-module _ (h : Head) (c : List ℕ) (p : Spot) where
+module _ (h : Head) (c : List ℕ) (p : Option BytePlace) where
   of_30 : Gives h c (reason_of 30) p → p ≡ spot_at (length c)
   unfolding spot_for
   of_30 g = given_spot h c (reason_of 30) p g
@@ -125,9 +124,9 @@ module _ (h : Head) (c : List ℕ) (p : Spot) where
 
 -- a place in a row of the table, or none
 abbrev NoPlace : Head → List ℕ → ℕ → Type 0
-NoPlace h c k = spot_for h c k ≡ Nowhere → (k ≡ 43) ⊎ (k ≡ 71)
+NoPlace h c k = spot_for h c k ≡ None → (k ≡ 43) ⊎ (k ≡ 71)
 
-no_place : (h : Head) (c : List ℕ) (r : Reason) (p : Spot) → Gives h c r p → (p ≡ Nowhere) ↔ ((number_of r ≡ 43) ⊎ (number_of r ≡ 71))
+no_place : (h : Head) (c : List ℕ) (r : Reason) (p : Option BytePlace) → Gives h c r p → (p ≡ None) ↔ ((number_of r ≡ 43) ⊎ (number_of r ≡ 71))
 unfolding spot_for
 no_place h c r p g = (
   λ e. given-number h c r p (NoPlace h c)
@@ -136,12 +135,12 @@ no_place h c r p g = (
   λ n. given_spot h c r p g ∙ back n,
 )
   where
-    back : (number_of r ≡ 43) ⊎ (number_of r ≡ 71) → spot_for h c (number_of r) ≡ Nowhere
+    back : (number_of r ≡ 43) ⊎ (number_of r ≡ 71) → spot_for h c (number_of r) ≡ None
     back (inl e) = ap (spot_for h c) e
     back (inr e) = ap (spot_for h c) e
 
 taken : (h : Head) (y : Logged) (c : List ℕ) (i : BlockNumber) (p : BytePlace)
-    → ((offered h y c).verdict ≡ Fresh i p) ⊎ ((offered h y c).verdict ≡ Repeat i p) → (offered h y c).spot ≡ Nowhere
+    → ((offered h y c).verdict ≡ Fresh i p) ⊎ ((offered h y c).verdict ≡ Repeat i p) → (offered h y c).spot ≡ None
 unfolding offered spot_of
 taken h y c i p (inl e) = ap (spot_of h c) e
 taken h y c i p (inr e) = ap (spot_of h c) e
@@ -236,7 +235,7 @@ place-table = record {
 
 -- ---- the first wrong byte
 
-module _ (h : Head) (c : List ℕ) (p : Spot) where
+module _ (h : Head) (c : List ℕ) (p : Option BytePlace) where
   -- the test of number k, the i-th of the chunk's own, found the bytes wanted
   wrong-there : (at : ℕ) (ys : List ℕ) → p ≡ first_other c at ys → stands_at c at ys ≡ false → FirstWrong c at ys p
   wrong-there at ys e f = subst (FirstWrong c at ys) (sym e) (first-wrong c at ys f)
@@ -279,7 +278,7 @@ module _ (h : Head) (c : List ℕ) (p : Spot) where
       wrong-there 28 (bytes_of 4 h.s) (of_40 h c p g)
       (number_apart 4 c 28 h.s (omega (arith, (right_shape h.size h.n h.m h.s o.shape).s_most)) (blamed 40 11 (chunk_checks h c) refl refl refl o.refuses).1)
 
-just_one : (c : List ℕ) (at : ℕ) (wanted : List ℕ) (p q : Spot) → FirstWrong c at wanted p → FirstWrong c at wanted q → p ≡ q
+just_one : (c : List ℕ) (at : ℕ) (wanted : List ℕ) (p q : Option BytePlace) → FirstWrong c at wanted p → FirstWrong c at wanted q → p ≡ q
 just_one c at wanted p q f g = f.here ∙ ap (λ (k : ℕ). spot_at (at + k)) same ∙ sym g.here
   where
     same : f.which ≡ g.which

@@ -1,23 +1,20 @@
 -- Sums of tallies, and that none of them outgrows the sum. Assumes nothing.
 use Prim.Native.Nat.{ℕ, zero, suc, ◌+◌, ◌-◌, ◌<◌, ◌≤◌}
-use mathlib.Core.Path.{◌≡◌}
+use mathlib.Core.Path.{◌≡◌, refl, sym}
 use mathlib.Core.Bool.{false}
 use mathlib.Core.List.{List, [], ◌∷◌}
 use native.Mathlib.Omega.{arith}
 use borrow.Author.Tests.{leb-false, ne_eqb}
-use lib.ListN.{length, get_or, drop, set}
-use lib.Seq.{drop-length}
-use Rattle.little.proofs.Laws.{part_laws}
+use lib.ListN.{get_or, set}
+use Rattle.std.specs.List.{sum as std_sum}
+use Rattle.std.proofs.lemmas.List.Recursion.{is_sum_by}
 use Rattle.sfc.specs.session.Tallies.{sum, total, tally_of, tally_full, counted_refusal}
 use Rattle.sfc.specs.declared.session.tallies.Tallies.{Tallies}
 
-pub sum-turn : (xs : List ℕ) (i t : ℕ) → 0 < i → i ≤ length xs → t ≡ sum (drop i xs) → get_or xs (i - 1) 0 + t ≡ sum (drop (i - 1) xs)
+-- the library's sum
+pub summed : (xs : List ℕ) → std_sum xs ≡ sum xs
 unfolding sum
-sum-turn xs i t h k e = rw (part_laws.drop_down xs i h k, e)
-
-pub sum_start : (xs : List ℕ) → 0 ≡ sum (drop (length xs) xs)
-unfolding sum
-sum_start xs = rw drop-length
+summed xs = sym (is_sum_by sum (λ x. x) refl (λ _ _. refl) xs)
 
 -- one element is at most the sum
 pub in_sum : (xs : List ℕ) (i : ℕ) → get_or xs i 0 ≤ sum xs

@@ -18,11 +18,11 @@ use Rattle.sfc.specs.answer.Numbers.{verdict, Passed}
 use Rattle.sfc.specs.format.Chunk.{chunk_magic, end_marker, index_of, type_of, payload_length, payload_of, chunk_length, type_for, length_checks, seal_checks, head_checks, chunk_checks}
 use Rattle.sfc.specs.writing.Writer.{compression, erasure_for, chunk_header, sealed, chunk_bytes}
 use Rattle.sfc.specs.declared.format.header.Head.{Head}
-use Rattle.sfc.specs.declared.answer.reason.Checked.TheVariants.{Good, Refused}
 use Rattle.sfc.proofs.answer.CheckLaws.{all-passed, good_then}
 use Rattle.sfc.proofs.writing.LayoutLaws.{length_header}
 use Rattle.sfc.proofs.writing.LengthLaws.{length-chunk}
 use Rattle.sfc.proofs.format.PlaceLaws.{stands_there, number_at}
+use Rattle.std.specs.Prelude.{Ok, Err}
 
 nested : (a b c d e f g p h t r : List ℕ)
     → ((a ++ b ++ c ++ d ++ e ++ f ++ g) ++ p ++ h ++ t) ++ r ≡ a ++ (b ++ (c ++ (d ++ (e ++ (f ++ (g ++ (p ++ (h ++ (t ++ r)))))))))
@@ -182,8 +182,8 @@ module _ (h : Head) (i : ℕ) (p rest : List ℕ) (m : Made h i p) where
     ),
   )
 
-  pub chunk_good : verdict (chunk_checks h made) ≡ Good
+  pub chunk_good : verdict (chunk_checks h made) ≡ Ok tt
   chunk_good =
-      good_then Refused (length_checks h.s made) (seal_checks made ++ head_checks h made) Good (all-passed (length_checks h.s made) length-passed)
-      ∙ good_then Refused (seal_checks made) (head_checks h made) Good (all-passed (seal_checks made) seal_passed)
+      good_then Err (length_checks h.s made) (seal_checks made ++ head_checks h made) (Ok tt) (all-passed (length_checks h.s made) length-passed)
+      ∙ good_then Err (seal_checks made) (head_checks h made) (Ok tt) (all-passed (seal_checks made) seal_passed)
       ∙ all-passed (head_checks h made) head_passed

@@ -19,7 +19,9 @@ use Rattle.sfc.specs.session.Right.{RightShape}
 use Rattle.sfc.proofs.session.MarkLaws.{right_shape}
 use Rattle.sfc.proofs.writing.LayoutLaws.{length-padded}
 use Rattle.sfc.proofs.format.LimitLaws.{wanted_holds}
-use Rattle.sfc.proofs.writing.RunOfChunks.{code_chunk}
+use Rattle.sfc.specs.inner.Writing.{code_chunk, Planned}
+use Rattle.sfc.specs.declared.writing.parts.Plan.{Plan}
+use Rattle.sfc.specs.declared.writing.parts.DataBlocks.{DataBlocks}
 
 -- a shape that 14 and 15 let through is one of the code's
 pub code_shape : (size n m s : ℕ) → shape_wrong size n m s ≡ false → wrong_shape n m s ≡ false
@@ -29,62 +31,69 @@ code_shape size n m s w =
     let z : n ≡ 0 → ⊥ = λ e. omega (arith, r.n_least) in
     rw (ne_eqb n 0 z, le-ltb 1024 n r.n_most, le-ltb 32 m r.m_most, le-ltb s 2 r.s_least, le-ltb 4096 s r.s_most, eq-eqb (s % 2) 0 r.s_even)
 
-module _ (n m s : ℕ) (content : List ℕ) (w : shape_wrong (length content) n m s ≡ false) where
-  r : RightShape (length content) n m s
-  r = right_shape (length content) n m s w
+module _ (p : Plan) (content : List ℕ) (w : shape_wrong (length content) p.n p.m p.s ≡ false) where
+  r : RightShape (length content) p.n p.m p.s
+  r = right_shape (length content) p.n p.m p.s w
 
-  pub last_place : (1 ≤ n) × ((n - 1) * s ≤ length content) × (length content ≤ (n - 1) * s + s) × ((n - 1) * s + s ≡ n * s) × (s ≤ 4096) × ((n - 1) * s ≤ 4194304)
+  pub last_place : (1 ≤ p.n) × ((p.n - 1) * p.s ≤ length content) × (length content ≤ (p.n - 1) * p.s + p.s) × ((p.n - 1) * p.s + p.s ≡ p.n * p.s) × (p.s ≤ 4096) × ((p.n - 1) * p.s ≤ 4194304)
   last_place =
-      let h = wanted_holds (length content) s (omega (arith, r.s_least)) in
-      let p = r.n_least in
-      let e : n ≡ n - 1 + 1 = omega arith in
-      let b : (n - 1) * s + s ≡ n * s = sym (ap (λ (j : ℕ). j * s) e ∙ add-mul (n - 1) 1 s ∙ ap (λ (j : ℕ). (n - 1) * s + j) (one-mul s)) in
-      let a : (n - 1) * s ≤ length content = omega (arith, ap (λ (j : ℕ). (j - 1) * s) r.wanted, h.0) in
-      let c : length content ≤ n * s = omega (arith, ap (λ (j : ℕ). j * s) r.wanted, h.1) in
-      let t : n * s ≤ 1024 * 4096 = mul-le-mul {n₁ = n} {m₁ = s} {n₂ = 1024} {m₂ = 4096} r.n_most r.s_most in
-      (p, a, omega arith, b, r.s_most, omega arith)
+      let h = wanted_holds (length content) p.s (omega (arith, r.s_least)) in
+      let o = r.n_least in
+      let e : p.n ≡ p.n - 1 + 1 = omega arith in
+      let b : (p.n - 1) * p.s + p.s ≡ p.n * p.s = sym (ap (λ (j : ℕ). j * p.s) e ∙ add-mul (p.n - 1) 1 p.s ∙ ap (λ (j : ℕ). (p.n - 1) * p.s + j) (one-mul p.s)) in
+      let a : (p.n - 1) * p.s ≤ length content = omega (arith, ap (λ (j : ℕ). (j - 1) * p.s) r.wanted, h.0) in
+      let c : length content ≤ p.n * p.s = omega (arith, ap (λ (j : ℕ). j * p.s) r.wanted, h.1) in
+      let t : p.n * p.s ≤ 1024 * 4096 = mul-le-mul {n₁ = p.n} {m₁ = p.s} {n₂ = 1024} {m₂ = 4096} r.n_most r.s_most in
+      (o, a, omega arith, b, r.s_most, omega arith)
 
   -- what comes after the blocks before the last fits in one
-  pub last_fits : (q : ℕ) (last : List ℕ) → q ≡ length content - (n - 1) * s → length last ≡ 4096 → length (part content ((n - 1) * s) q) ≤ length (take s last)
+  pub last_fits : (q : ℕ) (last : List ℕ) → q ≡ length content - (p.n - 1) * p.s → length last ≡ 4096 → length (part content ((p.n - 1) * p.s) q) ≤ length (take p.s last)
   last_fits q last e h =
       let l = last_place in
       omega (
         arith,
         l,
-        ap (λ (j : ℕ). length (part content ((n - 1) * s) j)) e,
-        ap length (part_laws.part-rest content ((n - 1) * s)),
-        length-drop ((n - 1) * s) content,
-        length-take-le s last (omega (arith, h, l.4)),
+        ap (λ (j : ℕ). length (part content ((p.n - 1) * p.s) j)) e,
+        ap length (part_laws.part-rest content ((p.n - 1) * p.s)),
+        length-drop ((p.n - 1) * p.s) content,
+        length-take-le p.s last (omega (arith, h, l.4)),
       )
 
-  module _ (q : ℕ) (last y : List ℕ) (eq : q ≡ length content - (n - 1) * s) (h : length last ≡ 4096)
-      (ey : y ≡ padded (length (take s last)) (part content ((n - 1) * s) q)) where
-    rest : y ≡ padded s (drop ((n - 1) * s) content)
+  module _ (q : ℕ) (last y : List ℕ) (eq : q ≡ length content - (p.n - 1) * p.s) (h : length last ≡ 4096)
+      (ey : y ≡ padded (length (take p.s last)) (part content ((p.n - 1) * p.s) q)) where
+    rest : y ≡ padded p.s (drop ((p.n - 1) * p.s) content)
     rest =
-        let t = length-take-le s last (omega (arith, h, last_place.4)) in
-        ey ∙ ap₂ padded t (ap (λ (j : ℕ). part content ((n - 1) * s) j) eq ∙ part_laws.part-rest content ((n - 1) * s))
+        let t = length-take-le p.s last (omega (arith, h, last_place.4)) in
+        ey ∙ ap₂ padded t (ap (λ (j : ℕ). part content ((p.n - 1) * p.s) j) eq ∙ part_laws.part-rest content ((p.n - 1) * p.s))
 
-    last_long : length y ≡ s
-    last_long = ap length rest ∙ length-padded s (drop ((n - 1) * s) content) (omega (arith, last_place, length-drop ((n - 1) * s) content))
+    last_long : length y ≡ p.s
+    last_long = ap length rest ∙ length-padded p.s (drop ((p.n - 1) * p.s) content) (omega (arith, last_place, length-drop ((p.n - 1) * p.s) content))
 
-    last_kept : take s (y ++ drop s last) ≡ y
-    last_kept = take_at y (drop s last) s last_long
+    last_kept : take p.s (y ++ drop p.s last) ≡ y
+    last_kept = take_at y (drop p.s last) p.s last_long
 
-    pub last_inside : s ≤ length (y ++ drop s last)
-    last_inside = omega (arith, length-append y (drop s last), last_long)
+    pub last_inside : p.s ≤ length (y ++ drop p.s last)
+    last_inside = omega (arith, length-append y (drop p.s last), last_long)
 
-    pub last_asked : (length (take ((n - 1) * s) content) ≡ (n - 1) * s) × (length (take s (y ++ drop s last)) ≡ s)
-    last_asked = (length-take-le ((n - 1) * s) content last_place.1, ap length last_kept ∙ last_long)
+    pub last_there : length (take p.s (y ++ drop p.s last)) ≡ p.s
+    last_there = ap length last_kept ∙ last_long
+
+    pub planned : (b : DataBlocks) → b.front.now ≡ take ((p.n - 1) * p.s) content → b.last.now ≡ take p.s (y ++ drop p.s last) → Planned p b
+    planned b ef el = record {
+      shape = code_shape (length content) p.n p.m p.s w;
+      front_long = ap length ef ∙ length-take-le ((p.n - 1) * p.s) content last_place.1;
+      last_long = ap length el ∙ last_there;
+    }
 
     -- the data blocks are the content, padded
-    data_is : take ((n - 1) * s) content ++ take s (y ++ drop s last) ≡ padded (n * s) content
+    data_is : take ((p.n - 1) * p.s) content ++ take p.s (y ++ drop p.s last) ≡ padded (p.n * p.s) content
     data_is =
         let l = last_place in
-        let g : s - length (drop ((n - 1) * s) content) ≡ n * s - length content = omega (arith, l, length-drop ((n - 1) * s) content) in
-        ap (λ (x : List ℕ). take ((n - 1) * s) content ++ x) (last_kept ∙ rest)
-        ∙ sym (append_assoc (take ((n - 1) * s) content) (drop ((n - 1) * s) content) (zeros (s - length (drop ((n - 1) * s) content))))
-        ∙ ap₂ (λ (x : List ℕ) (j : ℕ). x ++ zeros j) (take-append-drop ((n - 1) * s) content) g
+        let g : p.s - length (drop ((p.n - 1) * p.s) content) ≡ p.n * p.s - length content = omega (arith, l, length-drop ((p.n - 1) * p.s) content) in
+        ap (λ (x : List ℕ). take ((p.n - 1) * p.s) content ++ x) (last_kept ∙ rest)
+        ∙ sym (append_assoc (take ((p.n - 1) * p.s) content) (drop ((p.n - 1) * p.s) content) (zeros (p.s - length (drop ((p.n - 1) * p.s) content))))
+        ∙ ap₂ (λ (x : List ℕ) (j : ℕ). x ++ zeros j) (take-append-drop ((p.n - 1) * p.s) content) g
 
-    pub data_made : (uuid d : List ℕ) → d ≡ joined (code_chunk uuid n m s (take ((n - 1) * s) content ++ take s (y ++ drop s last))) 0 (n + m)
-        → d ≡ joined (code_chunk uuid n m s (padded (n * s) content)) 0 (n + m)
-    data_made uuid d e = e ∙ ap (λ (x : List ℕ). joined (code_chunk uuid n m s x) 0 (n + m)) data_is
+    pub data_made : (d : List ℕ) → d ≡ joined (code_chunk p (take ((p.n - 1) * p.s) content ++ take p.s (y ++ drop p.s last))) 0 (p.n + p.m)
+        → d ≡ joined (code_chunk p (padded (p.n * p.s) content)) 0 (p.n + p.m)
+    data_made d e = e ∙ ap (λ (x : List ℕ). joined (code_chunk p x) 0 (p.n + p.m)) data_is

@@ -19,18 +19,23 @@ use Rattle.sfc.specs.answer.Numbers.{Answered}
 use Rattle.sfc.specs.writing.Writer.{Input, size, blocks, identity_bytes, shape_bytes, index_bytes, body, region, data_of, payload, chunk, preamble, trailer_bytes, trailer, file_of, input_wrong, write_file}
 use Rattle.sfc.specs.session.Right.{RightShape}
 use Rattle.sfc.specs.declared.answer.reason.Reason.TheVariants.{WriterInput, WriterOutput}
-use Rattle.sfc.specs.declared.answer.written.Written.{Written}
-use Rattle.sfc.specs.declared.answer.written.Written.TheVariants.{Bytes, Refused}
 use Rattle.sfc.proofs.session.MarkLaws.{right_shape}
 use Rattle.sfc.proofs.writing.FillLaws.{Front, front_start, front_length, front-end, front-le, front_lent, front_copy, front_is, front-first}
 use Rattle.sfc.proofs.writing.LayoutLaws.{length-field, length-indices}
 use Rattle.sfc.proofs.writing.LengthLaws.{length-chunk, length-joined, length-trailer, length-payload}
-use Rattle.sfc.proofs.writing.RunOfChunks.{code_chunk}
+use Rattle.sfc.specs.inner.Writing.{code_chunk}
+use Rattle.sfc.specs.declared.writing.parts.Plan.{Plan}
 use Rattle.sfc.proofs.writing.RegionBack.{length-region, length-body}
 use Rattle.sfc.proofs.writing.InputLaws.{RightInput, right_input}
+use Rattle.sfc.specs.declared.answer.reason.Reason.{Reason}
+use Rattle.std.specs.Prelude.{Result, Ok, Err}
 
 regroup : (a b c d e : List ℕ) → a ++ b ++ c ++ d ++ e ≡ a ++ (b ++ c ++ d ++ e)
 regroup a b c d e = simp append_assoc
+
+-- the plan under which its chunks are made, for a count of data blocks
+abbrev pub plan_of : Input → ℕ → Plan
+plan_of w n = record { uuid = w.uuid; n = n; m = w.m; s = w.s }
 
 -- ---- lengths
 
@@ -132,10 +137,10 @@ module _ (w : Input) (u : length w.uuid ≡ 16) (ok : input_wrong w ≡ false) w
             pub region₄ : length d₄ ≡ length d
             region₄ = front_length front₄
 
-            pub fields_lent : (j : ℕ) → j ≡ length d₄ - end → length w.fields ≤ length (part d₄ end j)
+            pub fields_lent : (j : ℕ) → j ≡ length d₄ - end → length (part d₄ end j) ≡ length w.fields
             fields_lent j ej = omega (arith, part_laws.length_part d₄ end j (omega (arith, region₄, region_long)), region₄, region_long)
 
-            pub region-made : (y₅ : List ℕ) (j : ℕ) → j ≡ length d₄ - end → y₅ ≡ take (length w.fields) w.fields ++ drop (length w.fields) (part d₄ end j)
+            pub region-made : (y₅ : List ℕ) (j : ℕ) → j ≡ length d₄ - end → y₅ ≡ w.fields
                 → take end d₄ ++ (y₅ ++ drop j (drop end d₄)) ≡ region w
             unfolding region body
             region-made y₅ j ej ey₅ =
@@ -189,11 +194,11 @@ module _ (w : Input) (u : length w.uuid ≡ 16) (ok : input_wrong w ≡ false) w
             part_laws.length_part o₂ start j (omega (arith, long₂, file_room)) ∙ omega (arith, file_room, ap (λ (k : ℕ). (k + w.m) * (84 + w.s)) en)
 
         module _ (n end j : ℕ) (en : n ≡ blocks w) (ee : end ≡ length out - 64) (ej : j ≡ end - start) (y₃ o₃ : List ℕ)
-            (ey₃ : y₃ ≡ joined (code_chunk w.uuid n w.m w.s (padded (n * w.s) w.content)) 0 (n + w.m))
+            (ey₃ : y₃ ≡ joined (code_chunk (plan_of w n) (padded (n * w.s) w.content)) 0 (n + w.m))
             (e₃ : o₃ ≡ take start o₂ ++ (y₃ ++ drop j (drop start o₂))) where
           are_chunks : y₃ ≡ joined (chunk w) 0 (blocks w + w.m)
           unfolding chunk payload data_of
-          are_chunks = ey₃ ∙ ap (λ (k : ℕ). joined (code_chunk w.uuid k w.m w.s (padded (k * w.s) w.content)) 0 (k + w.m)) en
+          are_chunks = ey₃ ∙ ap (λ (k : ℕ). joined (code_chunk (plan_of w k) (padded (k * w.s) w.content)) 0 (k + w.m)) en
 
           file₃ : Front out (preamble ++ region w ++ joined (chunk w) 0 (blocks w + w.m)) end o₃
           file₃ =
@@ -219,7 +224,7 @@ module _ (w : Input) (u : length w.uuid ≡ 16) (ok : input_wrong w ≡ false) w
 -- ---- the answers of the call
 
 module _ (w : Input) (out : List ℕ) where
-  pub write_wrong : input_wrong w ≡ true → ◌≡◌ {A = Answered Written} (record { answer = Refused WriterInput; output = out }) (write_file w out)
+  pub write_wrong : input_wrong w ≡ true → ◌≡◌ {A = Answered (Result ℕ Reason)} (record { answer = Err WriterInput; output = out }) (write_file w out)
   unfolding write_file
   write_wrong e = rw e
 
@@ -228,12 +233,12 @@ module _ (w : Input) (out : List ℕ) where
     pub count_is : count ≡ length (file_of w)
     count_is = ec ∙ omega (arith, file_length w u ok, body_long w u ok, ap (λ (k : ℕ). (k + w.m) * (84 + w.s)) en)
 
-    pub write_short : length out < count → ◌≡◌ {A = Answered Written} (record { answer = Refused WriterOutput; output = out }) (write_file w out)
+    pub write_short : length out < count → ◌≡◌ {A = Answered (Result ℕ Reason)} (record { answer = Err WriterOutput; output = out }) (write_file w out)
     unfolding write_file
     write_short h = rw (ok, lt-ltb (length out) (length (file_of w)) (omega (arith, count_is)))
 
     pub write_good : count ≤ length out → (y : List ℕ) → y ≡ file_of w
-        → ◌≡◌ {A = Answered Written} (record { answer = Bytes count; output = y ++ drop count out }) (write_file w out)
+        → ◌≡◌ {A = Answered (Result ℕ Reason)} (record { answer = Ok count; output = y ++ drop count out }) (write_file w out)
     unfolding write_file
     write_good h y ey = rw (ok, le-ltb (length out) (length (file_of w)) (omega (arith, count_is)), ey, count_is)
 

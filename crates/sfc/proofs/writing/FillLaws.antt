@@ -4,10 +4,10 @@ use mathlib.Core.Path.{◌≡◌, refl, sym, ap, ap₂, ◌∙◌}
 use mathlib.Core.List.{List, [], ◌++◌, append-nil}
 use native.Mathlib.Omega.{arith}
 use lib.ListN.{length, take, drop, length-append, drop_of_length-le, take-append-drop}
-use lib.Seq.{take_all, take_at, length-take-le}
-use Rattle.little.specs.Parts.{part, put}
+use lib.Seq.{take_at, length-take-le}
+use Rattle.little.specs.Parts.{put}
 use Rattle.little.specs.Fields.{bytes_of, put_le}
-use Rattle.little.proofs.Laws.{put_laws, part_laws, byte_laws, little_laws}
+use Rattle.little.proofs.Laws.{put_laws, byte_laws, little_laws}
 
 -- `cur` is the list xs with a, of length `at`, at its front
 pub record Front (xs a : List ℕ) (at : ℕ) (cur : List ℕ) : Type 0 where
@@ -55,12 +55,9 @@ module _ {xs a cur : List ℕ} {at : ℕ} (f : Front xs a at cur) where
   front_lent ys n l h = front_is (front-put f ys n l h) refl (sym (put_laws.lent cur ys at n l))
 
   -- a lent part to which all of src was copied
-  pub front_copy : (src ys : List ℕ) (n : ℕ) → length src ≡ n → at + n ≤ length xs → ys ≡ take (length src) src ++ drop (length src) (part cur at n)
+  pub front_copy : (src ys : List ℕ) (n : ℕ) → length src ≡ n → at + n ≤ length xs → ys ≡ src
       → Front xs (a ++ src) (at + n) (take at cur ++ (ys ++ drop n (drop at cur)))
-  front_copy src ys n l h e =
-      let p : length (part cur at n) ≡ length src = part_laws.length_part cur at n (omega (arith, front_length f)) ∙ sym l in
-      let y : ys ≡ src = e ∙ put_laws.copied src (part cur at n) p in
-      front_is (front_lent ys n (ap length y ∙ l) h) (ap (λ (l : List ℕ). a ++ l) y) refl
+  front_copy src ys n l h y = front_is (front_lent ys n (ap length y ∙ l) h) (ap (λ (l : List ℕ). a ++ l) y) refl
 
 -- a lent front that came back with ys in it
 pub front-first : (xs ys : List ℕ) (n : ℕ) → length ys ≡ n → n ≤ length xs → Front xs ys n (ys ++ drop n xs)
@@ -74,8 +71,3 @@ front-taken xs at h =
 
 pub front-take : {xs a cur : List ℕ} {at : ℕ} → Front xs a at cur → take at cur ≡ a
 front-take {xs} {a} {cur} {at} f = ap (take at) f.made ∙ take_at a (drop (length a) xs) at f.long
-
--- a copy to the front of a whole list
-pub front_copied : (xs src cur : List ℕ) → length src ≤ length xs → cur ≡ take (length src) src ++ drop (length src) xs → Front xs src (length src) cur
-front_copied xs src cur h e =
-    record { made = e ∙ ap (λ (l : List ℕ). l ++ drop (length src) xs) (take_all (length src) src (omega arith)); long = refl; room = h }

@@ -1,5 +1,6 @@
 -- Preamble, region and trailer of a written file are read back as the caller's values, whatever lies before the trailer. Assumes
 -- nothing.
+use Rattle.std.specs.Prelude.{Ok, Err}
 use Prim.Native.Nat.{ℕ, ◌+◌, ◌-◌, ◌^◌, ◌<◌}
 use mathlib.Core.Path.{◌≡◌, refl, ap, ap₂, ◌∙◌}
 use mathlib.Core.Bool.{Bool, true, false, not, ◌||◌}
@@ -17,7 +18,7 @@ use Rattle.sfc.specs.format.Bytes.{stands_at}
 use Rattle.little.specs.Runs.{zeros}
 use Rattle.sfc.specs.answer.Numbers.{Check, verdict, Passed}
 use Rattle.sfc.specs.format.Limits.{length_wrong}
-use Rattle.sfc.specs.format.Header.{trailer_magic, length_field, region_of, trailer_of, head_of, region_checks, trailer_checks, header_checks, refused_header, accepted_header, read_header}
+use Rattle.sfc.specs.format.Header.{trailer_magic, length_field, region_of, trailer_of, head_of, region_checks, trailer_checks, header_checks, read_header}
 use Rattle.sfc.specs.writing.Writer.{Input, body, region, preamble, trailer_bytes, trailer, head_for}
 use Rattle.sfc.proofs.answer.CheckLaws.{all-passed, passes_good, good_all}
 use Rattle.sfc.proofs.writing.LengthLaws.{length-trailer}
@@ -123,11 +124,11 @@ module _ (w : Input) (u : length w.uuid ≡ 16) (r : RightInput w) (between : Li
       let b = length-body w u r.name_short in
       ap₂ ◌||◌ (le-ltb (length (body w)) 331 (omega arith)) (le-ltb 65536 (length (body w)) r.body_short)
 
-  pub header_back : read_header (given w r.fitting.length_small between) ≡ accepted_header (head_for w)
+  pub header_back : read_header (given w r.fitting.length_small between) ≡ Ok (head_for w)
   unfolding read_header
   header_back =
       let fits = r.fitting.length_small in
       let b : List ℕ = given w fits between in
-      good_all refused_header (header_checks b) (accepted_header (head_of (region_of b)))
+      good_all Err (header_checks b) (Ok (head_of (region_of b)))
       (judged w fits between ∙ (rw body_right (passes_good (region_checks (region w)) r.checks_pass)))
-      ∙ ap accepted_header (ap head_of (region-back w fits between) ∙ head-back w u r.name_short r.fitting r.name_whole)
+      ∙ ap Ok (ap head_of (region-back w fits between) ∙ head-back w u r.name_short r.fitting r.name_whole)

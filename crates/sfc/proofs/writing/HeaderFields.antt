@@ -20,13 +20,11 @@ use Rattle.sfc.specs.answer.Numbers.{Check, verdict, Passed}
 use Rattle.sfc.specs.format.Limits.{length_wrong}
 use Rattle.sfc.specs.format.Extension.{Field, field_bytes, joined_fields, field_at, whole_field, fields_in, fields_of, is_known, extension_wrong}
 use Rattle.sfc.specs.format.FieldsTaken.{field_no, Known, Storable, AllStorable}
-use Rattle.sfc.specs.format.Header.{magic, length_field, region_of, trailer_of, head_of, indices, distinct_below, priority_wrong, number_checks, list_checks, region_checks, trailer_checks, header_checks, refused_header, accepted_header, read_header}
+use Rattle.sfc.specs.format.Header.{magic, length_field, region_of, trailer_of, head_of, indices, distinct_below, priority_wrong, number_checks, list_checks, region_checks, trailer_checks, header_checks, read_header, header_verdict}
 use Rattle.sfc.specs.format.Lookup.{extension_of}
 use Rattle.sfc.specs.writing.Writer.{Input, blocks, region as made-region, chunk, trailer_bytes, file_of, rises_weakly, tags_fall, input_wrong}
 use Rattle.sfc.specs.writing.HeaderFields.{length_with, region_with, header_with, Accepted, HeaderFields}
-use Rattle.sfc.specs.declared.answer.reason.Checked.TheVariants.{Good, Refused}
 use Rattle.sfc.specs.declared.format.header.Head.{Head}
-use Rattle.sfc.specs.declared.format.header.HeaderRead.{HeaderRead}
 use Rattle.sfc.proofs.answer.CheckLaws.{passed, front-passed, all-passed, good_then, tells}
 use Rattle.sfc.proofs.format.PlaceLaws.{number_at, le-front, stands_front}
 use Rattle.sfc.proofs.format.HeaderParts.{only_seen}
@@ -37,6 +35,7 @@ use Rattle.sfc.proofs.writing.LengthLaws.{length-trailer}
 use Rattle.sfc.proofs.writing.RegionBack.{fields_after, head-back}
 use Rattle.sfc.proofs.writing.InputLaws.{right_input}
 use Rattle.sfc.proofs.writing.HeaderBack.{trailer-passed, last_passed, region-back}
+use Rattle.std.specs.Prelude.{Ok, Err}
 
 -- ---- a region with another extension
 
@@ -109,7 +108,7 @@ module _ (r e : List ℕ) (long : 335 + 4 * le r 333 2 ≤ length r) where
       let l : 335 + 4 * le made 333 2 ≡ 4 + upto = omega (arith, same_number 333 2 (omega arith) (omega arith)) in
       let x : extension_of made ≡ e = ap (λ (k : ℕ). drop k made) l ∙ from_extension in
       ap (λ (cs : List Check). verdict (cs ++ list_checks (head_of made) made)) same_numbers
-      ∙ good_then Refused (number_checks (head_of r)) (list_checks (head_of made) made) Good (all-passed (number_checks (head_of r)) p)
+      ∙ good_then Err (number_checks (head_of r)) (list_checks (head_of made) made) (Ok tt) (all-passed (number_checks (head_of r)) p)
       ∙ rw (same_priority w, x, same_number 317 4 (omega arith) (omega arith), same_number 321 4 (omega arith) (omega arith), same_number 331 2 (omega arith) (omega arith)) refl
 
 -- ---- the input with that region
@@ -119,11 +118,11 @@ start_passed : (p q l : Bool) (cs : List Check) → p ≡ false → q ≡ false 
 start_passed p q l cs ep eq el = λ i. verdict ((false, 10) ∷ (ep i, 11) ∷ (eq i, 12) ∷ (el i, 13) ∷ (false, 10) ∷ cs)
 
 -- which checks a verdict of a header comes from
-verdict_of_lem : (b : List ℕ) → verdict (header_checks b) ≡ (read_header b).verdict
+verdict_of_lem : (b : List ℕ) → verdict (header_checks b) ≡ header_verdict (read_header b)
 unfolding read_header
-verdict_of_lem b = tells (λ (x : HeaderRead). x.verdict) refused_header (accepted_header (head_of (region_of b))) (λ q. refl) refl (header_checks b) (read_header b).verdict refl
+verdict_of_lem b = tells header_verdict Err (Ok (head_of (region_of b))) (λ q. refl) refl (header_checks b) (header_verdict (read_header b)) refl
 
-module _ (b : List ℕ) (good : (read_header b).verdict ≡ Good) where
+module _ (b : List ℕ) (good : header_verdict (read_header b) ≡ Ok tt) where
   tests : Passed (header_checks b)
   tests = passed (header_checks b) (verdict_of_lem b ∙ good)
 
@@ -195,7 +194,7 @@ module _ (b : List ℕ) (good : (read_header b).verdict ≡ Good) where
     unfolding length_wrong
     length_right = ap₂ ◌||◌ (le-ltb (length_field front) 331 (omega (arith, front-field))) (le-ltb 65536 (length_field front) (omega (arith, front-field)))
 
-    by_extension : (read_header (header_with b e between time)).verdict
+    by_extension : header_verdict (read_header (header_with b e between time))
         ≡ verdict ((extension_wrong (le region 317 4 + le region 321 4) (le region 331 2) e, 21) ∷ [])
     by_extension =
         let made : List ℕ = region_with region e in
@@ -275,23 +274,23 @@ module _ (b : List ℕ) (fs : List Field) (x : Accepted b fs) where
   -- fields with the same verdict are accepted
   accepted_as : (gs : List Field) (between : List ℕ) (time : ℕ) → length_with (region_of b) (joined_fields gs) ≤ 65536
       → extension_wrong all_blocks flags (joined_fields gs) ≡ extension_wrong all_blocks flags (joined_fields fs)
-      → (read_header (header_with b (joined_fields gs) between time)).verdict ≡ Good
+      → header_verdict (read_header (header_with b (joined_fields gs) between time)) ≡ Ok tt
   accepted_as gs between time h e =
       by_extension b x.good (joined_fields gs) between time h ∙ ap (λ (t : Bool). verdict ((t, 21) ∷ [])) (e ∙ fields_right)
 
-  any_order : (gs : List Field) (between : List ℕ) (time : ℕ) → Permᴰ fs gs → (read_header (header_with b (joined_fields gs) between time)).verdict ≡ Good
+  any_order : (gs : List Field) (between : List ℕ) (time : ℕ) → Permᴰ fs gs → header_verdict (read_header (header_with b (joined_fields gs) between time)) ≡ Ok tt
   any_order gs between time d = accepted_as gs between time (omega (arith, same_long d, fits)) (sym (order_free all_blocks flags fs gs d storable))
 
 module _ (b between : List ℕ) (time : ℕ) (fs gs : List Field) where
   foreign_more : (f : Field) → Accepted b (fs ++ gs) → f.tag < 256 ^ 2 → is_known f.tag ≡ false → length f.value ≤ 16384
-      → length_with (region_of b) (joined_fields (fs ++ (f ∷ gs))) ≤ 65536 → (read_header (header_with b (joined_fields (fs ++ (f ∷ gs))) between time)).verdict ≡ Good
+      → length_with (region_of b) (joined_fields (fs ++ (f ∷ gs))) ≤ 65536 → header_verdict (read_header (header_with b (joined_fields (fs ++ (f ∷ gs))) between time)) ≡ Ok tt
   foreign_more f x t k l h =
       accepted_as b (fs ++ gs) x (fs ++ (f ∷ gs)) between time h
       (foreign_added (all_blocks b (fs ++ gs) x) (flags b (fs ++ gs) x) fs gs f (storable b (fs ++ gs) x) (t, omega arith) k l)
 
   repeat_free : (i : ℕ) → Accepted b (fs ++ gs) → i < length (fs ++ gs) → is_known (field_no (fs ++ gs) i).tag ≡ false
       → length_with (region_of b) (joined_fields (fs ++ (field_no (fs ++ gs) i ∷ gs))) ≤ 65536
-      → (read_header (header_with b (joined_fields (fs ++ (field_no (fs ++ gs) i ∷ gs))) between time)).verdict ≡ Good
+      → header_verdict (read_header (header_with b (joined_fields (fs ++ (field_no (fs ++ gs) i ∷ gs))) between time)) ≡ Ok tt
   repeat_free i x h k l =
       let t = (fields_taken.taken_exactly _ _ (extension_of (region_of b))).0 (extension_right b x.good) in
       let short : length (field_no (fs ++ gs) i).value ≤ 16384 = rw x.fields at (t.ruled i (rw x.fields h)).any_tag in

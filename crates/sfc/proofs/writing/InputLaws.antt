@@ -5,9 +5,9 @@ use mathlib.Core.Bool.{Bool, true, false, not, ◌&&◌, ◌||◌, false≢true,
 use mathlib.Core.List.{List, [], ◌∷◌, ◌++◌}
 use mathlib.Core.Logic.{⊎_elim}
 use native.Mathlib.Omega.{arith}
-use borrow.Author.Tests.{ltb-false, lt-ltb, le-ltb, lt-leb, ne_eqb, eq-eqb, eqb-false, not-false}
+use borrow.Author.Tests.{ltb-true, ltb-false, lt-ltb, le-ltb, lt-leb, ne_eqb, eq-eqb, eqb-false, not-false}
 use lib.Dec.{eqb, ltb}
-use lib.ListN.{length, get_or}
+use lib.ListN.{length}
 use Rattle.little.proofs.Laws.{test_laws}
 use Rattle.little.specs.Runs.{any}
 use Rattle.sfc.specs.answer.Numbers.{passes}
@@ -142,13 +142,16 @@ pub record Typed (w : Input) : Type 0 where
   pub m_typed : w.m < 256 ^ 4
   pub s_typed : w.s < 256 ^ 4
   pub flags_typed : w.flags < 256 ^ 2
-  pub indices_typed : (i : ℕ) → get_or w.priority i 0 < 256 ^ 4
   pub time_typed : w.time < 256 ^ 8
 
-none_outgrows : (l : List ℕ) → ((i : ℕ) → get_or l i 0 < 256 ^ 4) → any (outgrows 4) l ≡ false
-unfolding any
-none_outgrows [] h = refl
-none_outgrows (x ∷ xs) h = rw (lt-leb (256 ^ 4) x (h 0)) (none_outgrows xs (λ i. h (suc i)))
+-- and indices below N fit theirs
+none_outgrows : (n : ℕ) (l : List ℕ) → n ≤ 1024 → distinct_below n l ≡ true → any (outgrows 4) l ≡ false
+unfolding any distinct_below
+none_outgrows n [] h e = refl
+none_outgrows n (x ∷ xs) h e =
+    let a = test_laws.and_both (ltb x n && not (any (eqb x) xs)) (distinct_below n xs) e in
+    let b = test_laws.and_both (ltb x n) (not (any (eqb x) xs)) a.0 in
+    rw (lt-leb (256 ^ 4) x (omega (arith, ltb-true x n b.0))) (none_outgrows n xs h a.1)
 
 module _ (w : Input) (t : Typed w) (some : w.s ≡ 0 → ⊥) (few : blocks w ≤ 1024) (listed : length w.priority ≤ blocks w) where
   abbrev left : Bool
@@ -166,10 +169,10 @@ module _ (w : Input) (t : Typed w) (some : w.s ≡ 0 → ⊥) (few : blocks w �
   regroup false false false false false false true = refl
   regroup false false false false false false false = refl
 
-  -- with a right name and a right length
-  by_tests : name_wrong w.name ≡ false → length (body w) ≤ 65536 → input_wrong w ≡ left
+  -- with a right name, a right length and right indices
+  by_tests : name_wrong w.name ≡ false → length (body w) ≤ 65536 → distinct_below (blocks w) w.priority ≡ true → input_wrong w ≡ left
   unfolding input_wrong name_wrong length_wrong shape_wrong
-  by_tests nw lw =
+  by_tests nw lw dw =
       let nm = test_laws.or-false (ltb 255 (length w.name)) (any (eqb 0) w.name) nw in
       let short = ltb-false 255 (length w.name) nm.0 in
       let lb = length-body w t.uuid_long short in
@@ -182,7 +185,7 @@ module _ (w : Input) (t : Typed w) (some : w.s ≡ 0 → ⊥) (few : blocks w �
         s_small = t.s_typed;
         flags_small = t.flags_typed;
         priority_small = omega arith;
-        indices_small = none_outgrows w.priority t.indices_typed;
+        indices_small = none_outgrows (blocks w) w.priority few dw;
         time_small = t.time_typed;
       } in
       rw (
@@ -210,21 +213,29 @@ module _ (w : Input) (t : Typed w) (some : w.s ≡ 0 → ⊥) (few : blocks w �
   pub tests_are : (h : ℕ) → h ≡ 331 + 4 * length w.priority + length w.fields
       → (name_wrong w.name || ltb 65536 h || has_reserved w.fields || tags_fall w.fields || shape_wrong (size w) (blocks w) w.m w.s || flags_barred w.flags
       || not (distinct_below (blocks w) w.priority) || extension_wrong (blocks w + w.m) w.flags w.fields) ≡ input_wrong w
-  tests_are h eh = by_name (name_wrong w.name) refl
+  tests_are h eh = by_indices (distinct_below (blocks w) w.priority) refl
     where
-      by_length : name_wrong w.name ≡ false → length (body w) ≡ h → (ltb 65536 h || has_reserved w.fields || tags_fall w.fields || shape_wrong (size w) (blocks w) w.m w.s || flags_barred w.flags
+      by_length : name_wrong w.name ≡ false → distinct_below (blocks w) w.priority ≡ true → length (body w) ≡ h
+          → (ltb 65536 h || has_reserved w.fields || tags_fall w.fields || shape_wrong (size w) (blocks w) w.m w.s || flags_barred w.flags
           || not (distinct_below (blocks w) w.priority) || extension_wrong (blocks w + w.m) w.flags w.fields) ≡ input_wrong w
-      by_length nw lb =
+      by_length nw dw lb =
           ⊎_elim (λ (g : 65536 < h). rw (lt-ltb 65536 h g) (sym (wrong-length (omega arith))))
-          (λ (g : h ≤ 65536). rw (le-ltb 65536 h g) (sym (by_tests nw (omega arith)))) (test_laws.below_or 65536 h)
+          (λ (g : h ≤ 65536). rw (le-ltb 65536 h g) (sym (by_tests nw (omega arith) dw))) (test_laws.below_or 65536 h)
 
-      by_name : (b : Bool) → name_wrong w.name ≡ b → (b || ltb 65536 h || has_reserved w.fields || tags_fall w.fields || shape_wrong (size w) (blocks w) w.m w.s || flags_barred w.flags
+      by_name : (b : Bool) → name_wrong w.name ≡ b → distinct_below (blocks w) w.priority ≡ true
+          → (b || ltb 65536 h || has_reserved w.fields || tags_fall w.fields || shape_wrong (size w) (blocks w) w.m w.s || flags_barred w.flags
           || not (distinct_below (blocks w) w.priority) || extension_wrong (blocks w + w.m) w.flags w.fields) ≡ input_wrong w
-      by_name true e = sym (wrong_name e)
-      by_name false e = by_length e (name-length e)
+      by_name true e dw = sym (wrong_name e)
+      by_name false e dw = by_length e dw (name-length e)
         where
           name-length : name_wrong w.name ≡ false → length (body w) ≡ h
           name-length nw = length-body w t.uuid_long (short_name w.name nw) ∙ sym eh
+
+      by_indices : (b : Bool) → distinct_below (blocks w) w.priority ≡ b
+          → (name_wrong w.name || ltb 65536 h || has_reserved w.fields || tags_fall w.fields || shape_wrong (size w) (blocks w) w.m w.s || flags_barred w.flags
+          || not (distinct_below (blocks w) w.priority) || extension_wrong (blocks w + w.m) w.flags w.fields) ≡ input_wrong w
+      by_indices true e = by_name (name_wrong w.name) refl e
+      by_indices false e = rw (e, or-true) (absurd_right (input_wrong w) (λ z. false≢true (sym e ∙ (right_input w t.uuid_long z).priority_right)))
 
   -- the same as the code has it, one equation for each call
   pub tests_answered : (n h : ℕ) → n ≡ blocks w → h ≡ 331 + 4 * length w.priority + length w.fields → (nm sp fa sh fl di fi : Bool)

@@ -15,27 +15,16 @@ use Rattle.little.specs.Runs.{zeros}
 use Rattle.sfc.specs.format.Header.{magic, trailer_magic}
 use Rattle.sfc.specs.format.Chunk.{chunk_magic, end_marker, type_for}
 use Rattle.sfc.specs.writing.Writer.{erasure_for, identity_bytes, shape_bytes, index_bytes, preamble, trailer_bytes, chunk_header, sealed, chunk_bytes}
-use Rattle.sfc.proofs.writing.FillLaws.{Front, front_start, front_length, front-end, front-le, front_lent, front_copy, front_is, front-taken, front-take, front_copied}
+use Rattle.sfc.proofs.writing.FillLaws.{Front, front_start, front_length, front-end, front-le, front_lent, front_copy, front_is, front-taken, front-take}
 
 -- ---- padding
 
 pub length-padded : (width : ℕ) (b : List ℕ) → length b ≤ width → length (padded width b) ≡ width
 length-padded width b h = simp (length-append, length-replicate) (omega arith)
 
-pub padded-made : (b d e zs : List ℕ) (k : ℕ) → length b ≤ length d → e ≡ take (length b) b ++ drop (length b) d → k ≡ length e - length b
-    → zs ≡ zeros (length (part e (length b) k)) → take (length b) e ++ (zs ++ drop k (drop (length b) e)) ≡ padded (length d) b
-padded-made b d e zs k h ee ek ez =
-    let f = front_copied d b e h ee in
-    let le = front_length f in
-    let j : k ≡ length d - length b = omega arith in
-    let l : length (part e (length b) k) ≡ k = part_laws.length_part e (length b) k (omega arith) in
-    let z : zs ≡ zeros (length d - length b) = ez ∙ ap (λ (n : ℕ). zeros n) (l ∙ j) in
-    let lz : length zs ≡ k = ap length ez ∙ length-replicate (length (part e (length b) k)) 0 ∙ l in
-    front-end (front_lent f zs k lz (omega arith)) (omega arith) ∙ ap (λ (x : List ℕ). b ++ x) z
-
 -- ---- the preamble and the header region
 
-pub preamble-made : (d y d₂ d₃ : List ℕ) → length d ≡ 8 → y ≡ take (length magic) magic ++ drop (length magic) (part d 0 4)
+pub preamble-made : (d y d₂ d₃ : List ℕ) → length d ≡ 8 → y ≡ magic
     → d₂ ≡ put_le (take 0 d ++ (y ++ drop 4 (drop 0 d))) 4 2 0 → d₃ ≡ put_le d₂ 6 2 1 → d₃ ≡ preamble
 preamble-made d y d₂ d₃ h ey e₂ e₃ =
     front-end
@@ -45,11 +34,11 @@ preamble-made d y d₂ d₃ h ey e₂ e₃ =
     (sym h)
 
 pub identity_made : (uuid name digest d y d₂ d₃ p z : List ℕ) (size format : ℕ) → length d ≡ 313 → length uuid ≡ 16 → length digest ≡ 32 → length name ≤ 255
-    → y ≡ take (length uuid) uuid ++ drop (length uuid) (part d 0 16)
+    → y ≡ uuid
     → d₂ ≡ put_le (take 0 d ++ (y ++ drop 16 (drop 0 d))) 16 8 size
     → d₃ ≡ put_le d₂ 24 2 format
     → p ≡ padded (length (part d₃ 26 255)) name
-    → z ≡ take (length digest) digest ++ drop (length digest) (part (take 26 d₃ ++ (p ++ drop 255 (drop 26 d₃))) 281 32)
+    → z ≡ digest
     → take 281 (take 26 d₃ ++ (p ++ drop 255 (drop 26 d₃))) ++ (z ++ drop 32 (drop 281 (take 26 d₃ ++ (p ++ drop 255 (drop 26 d₃)))))
     ≡ identity_bytes uuid size format name digest
 unfolding identity_bytes
@@ -65,7 +54,7 @@ identity_made uuid name digest d y d₂ d₃ p z size format h u g n ey e₂ e�
 
 pub shape_made : (d d₁ d₂ d₃ y d₄ d₅ : List ℕ) (n m s e flags p : ℕ) → length d ≡ 18
     → d₁ ≡ put_le d 0 4 n → d₂ ≡ put_le d₁ 4 4 m → d₃ ≡ put_le d₂ 8 4 s → e ≡ erasure_for m
-    → y ≡ e ∷ 0 ∷ drop 2 (part d₃ 12 2)
+    → y ≡ e ∷ 0 ∷ []
     → d₄ ≡ put_le (take 12 d₃ ++ (y ++ drop 2 (drop 12 d₃))) 14 2 flags → d₅ ≡ put_le d₄ 16 2 p → d₅ ≡ shape_bytes n m s flags p
 unfolding shape_bytes
 shape_made d d₁ d₂ d₃ y d₄ d₅ n m s e flags p h e₁ e₂ e₃ ee ey e₄ e₅ =
@@ -111,11 +100,11 @@ unfolding chunk_header
 length_header uuid n m s i u = simp (length-append, length-field, u)
 
 pub header_made : (uuid d y b z d₁ d₂ d₃ x g zs : List ℕ) (n m s i t e : ℕ) → length d ≡ 48 → length uuid ≡ 16
-    → y ≡ take (length chunk_magic) chunk_magic ++ drop (length chunk_magic) (part d 0 4) → b ≡ take 0 d ++ (y ++ drop 4 (drop 0 d))
-    → z ≡ take (length uuid) uuid ++ drop (length uuid) (part b 4 16)
+    → y ≡ chunk_magic → b ≡ take 0 d ++ (y ++ drop 4 (drop 0 d))
+    → z ≡ uuid
     → d₁ ≡ put_le (take 4 b ++ (z ++ drop 16 (drop 4 b))) 20 4 i
     → t ≡ type_for n i → d₂ ≡ put_le d₁ 24 4 t → d₃ ≡ put_le d₂ 28 4 s → e ≡ erasure_for m
-    → x ≡ 0 ∷ e ∷ drop 2 (part d₃ 32 2) → g ≡ take 32 d₃ ++ (x ++ drop 2 (drop 32 d₃))
+    → x ≡ 0 ∷ e ∷ [] → g ≡ take 32 d₃ ++ (x ++ drop 2 (drop 32 d₃))
     → zs ≡ zeros (length (part g 34 14))
     → take 34 g ++ (zs ++ drop 14 (drop 34 g)) ≡ chunk_header uuid n m s i
 unfolding chunk_header
@@ -130,9 +119,9 @@ header_made uuid d y b z d₁ d₂ d₃ x g zs n m s i t e h u ey eb ez e₁ et 
     ∙ rw (q, et, ee)
 
 pub seal_made : (c digest y z : List ℕ) (at end n k : ℕ) → 36 ≤ length c → at ≡ length c - 36 → end ≡ at + 32 → length digest ≡ 32 → digest ≡ hash (take at c)
-    → n ≡ end - at → y ≡ take (length digest) digest ++ drop (length digest) (part c at n)
+    → n ≡ end - at → y ≡ digest
     → k ≡ length (take at c ++ (y ++ drop n (drop at c))) - end
-    → z ≡ take (length end_marker) end_marker ++ drop (length end_marker) (part (take at c ++ (y ++ drop n (drop at c))) end k)
+    → z ≡ end_marker
     → take end (take at c ++ (y ++ drop n (drop at c))) ++ (z ++ drop k (drop end (take at c ++ (y ++ drop n (drop at c))))) ≡ sealed (take (length c - 36) c)
 unfolding sealed
 seal_made c digest y z at end n k h ea ee l ed en ey ek ez =
@@ -146,7 +135,7 @@ seal_made c digest y z at end n k h ea ee l ed en ey ek ez =
 
 pub chunk-made : (uuid payload c y z e : List ℕ) (n m s i end k : ℕ) → length c ≡ 84 + length payload
     → length uuid ≡ 16 → y ≡ chunk_header uuid n m s i → end ≡ length (take 0 c ++ (y ++ drop 48 (drop 0 c))) - 36 → k ≡ end - 48
-    → z ≡ take (length payload) payload ++ drop (length payload) (part (take 0 c ++ (y ++ drop 48 (drop 0 c))) 48 k)
+    → z ≡ payload
     → (b : List ℕ) → b ≡ take 48 (take 0 c ++ (y ++ drop 48 (drop 0 c))) ++ (z ++ drop k (drop 48 (take 0 c ++ (y ++ drop 48 (drop 0 c)))))
     → e ≡ sealed (take (length b - 36) b) → e ≡ chunk_bytes uuid n m s i payload
 unfolding chunk_bytes
@@ -158,8 +147,7 @@ chunk-made uuid payload c y z e n m s i end k h u ey ee ek ez b eb es =
     es ∙ ap sealed (ap (λ (x : ℕ). take x b) q ∙ front-take f₂) ∙ ap (λ (x : List ℕ). sealed (x ++ payload)) ey
 
 pub trailer-made : (digest d y z d₁ zs : List ℕ) (time : ℕ) → length d ≡ 64 → length digest ≡ 32
-    → y ≡ take (length trailer_magic) trailer_magic ++ drop (length trailer_magic) (part d 0 8)
-    → z ≡ take (length digest) digest ++ drop (length digest) (part (take 0 d ++ (y ++ drop 8 (drop 0 d))) 8 32)
+    → y ≡ trailer_magic → z ≡ digest
     → d₁ ≡ put_le (take 8 (take 0 d ++ (y ++ drop 8 (drop 0 d))) ++ (z ++ drop 32 (drop 8 (take 0 d ++ (y ++ drop 8 (drop 0 d)))))) 40 8 time
     → zs ≡ zeros (length (part d₁ 48 16)) → take 48 d₁ ++ (zs ++ drop 16 (drop 48 d₁)) ≡ trailer_bytes digest time
 unfolding trailer_bytes

@@ -1,9 +1,7 @@
 -- The numbers of document 01's table and 54 of document 02, [8], one for each reason, and lists of checks that are tried in
 -- order. Assumes nothing: these are definitions.
-use Rattle.std.specs.Prelude.{ℕ, zero, suc, ◌≡◌, Bool, true, false, cond, not, ◌&&◌, List, [], ◌∷◌, eqb}
+use Rattle.std.specs.Prelude.{ℕ, zero, suc, ◌≡◌, Bool, true, false, cond, not, ◌&&◌, List, [], ◌∷◌, eqb, Result, Ok, Err}
 use Rattle.sfc.specs.declared.answer.reason.Reason.{Reason}
-use Rattle.sfc.specs.declared.answer.reason.Checked.{Checked}
-use Rattle.sfc.specs.declared.answer.reason.Checked.TheVariants.{Good, Refused}
 
 -- a row of the table: the reason's number, and the reason of the row before it; the first row has none, and names itself
 abbrev pub row : Reason → ℕ × Reason
@@ -69,14 +67,12 @@ abbrev pub checked : {A : Type 0} → List Check → (Reason → A) → A → A
 checked [] refuse good = good
 checked (c ∷ cs) refuse good = cond c.0 (refuse (reason_of c.1)) (checked cs refuse good)
 
--- what a list of checks comes to
-abbrev pub verdict : List Check → Checked
-verdict cs = checked cs Refused Good
+-- what a list of checks comes to: it is good, or the first that refuses has this reason
+abbrev pub Checked : Type 0
+Checked = Result (Unit {0}) Reason
 
--- what the checks so far came to and, where they all passed, one more
-unfoldable pub then_check : Checked → Bool → Reason → Checked
-then_check Good test why = cond test (Refused why) Good
-then_check (Refused r) test why = Refused r
+abbrev pub verdict : List Check → Checked
+verdict cs = checked cs Err (Ok tt)
 
 -- whether none of them refuses
 abbrev pub passes : List Check → Bool

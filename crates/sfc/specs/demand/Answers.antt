@@ -1,7 +1,7 @@
 -- What each public call that can refuse answers, read by its definition by number (answer/Said): the number of the first of its
 -- checks whose test holds and, where none does, a word and its values. Statements, proved in proofs/demand/Answers.antt, for any
 -- bytes, any numbers, and lent memory of any length.
-use Rattle.std.specs.Prelude.{ℕ, ◌*◌, ◌≡◌, cond, List, [], ◌∷◌, eqb, length}
+use Rattle.std.specs.Prelude.{ℕ, ◌*◌, ◌≡◌, cond, List, [], ◌∷◌, eqb, length, Result, Ok}
 use Rattle.little.specs.Said.{says, Apart}
 use Rattle.sfc.specs.answer.Said.{said_by_number, checked_said, header_said, note_said, field_said, chunk_said, chunk_spot, spot_said, measured_said, verdict_said, counted_said, turned_said, handed_out_said, prefix_said, block_said, listed_said, written_said}
 use Rattle.sfc.specs.format.Header.{header_checks, region_of, read_header}
@@ -21,13 +21,14 @@ use Rattle.sfc.specs.note.Ranges.{bounds_for, range_checks, list_ranges}
 use Rattle.sfc.specs.note.Note.{note_for, note_checks, write_note, read_checks, read_note}
 use Rattle.sfc.specs.writing.Writer.{Input, file_of, writer_checks, write_file}
 use Rattle.sfc.specs.declared.format.header.Head.{Head}
-use Rattle.sfc.specs.declared.format.chunk.ChunkChecked.{ChunkChecked}
+use Rattle.sfc.specs.declared.format.chunk.BrokenChunk.{BrokenChunk}
+use Rattle.sfc.specs.declared.format.chunk.WholeChunk.{WholeChunk}
 
 pub record Answers : Type 0 where
   -- a header, and one of its fields: where its value stands and how long it is, or that there is none
   pub header : (b : List ℕ) → header_said (read_header b) ≡ said_by_number (header_checks b) (says "good" [])
   pub field : (b : List ℕ) (tag : ℕ) → field_said (find_field b tag)
-      ≡ said_by_number (header_checks b) (field_said (found_among tag (extension_place (region_of b)) (fields_of (extension_of (region_of b)))))
+      ≡ said_by_number (header_checks b) (field_said (Ok (found_among tag (extension_place (region_of b)) (fields_of (extension_of (region_of b))))))
   -- a chunk by itself: its index, and the payload's place in it; where it broke, by the number of the refusal; and how long it is
   pub chunk : (h : Head) (c : List ℕ) → chunk_said (check_chunk h c) ≡ said_by_number (alone_checks h c) (says "whole" (index_of c ∷ 48 ∷ []))
   pub chunk-place : (h : Head) (c : List ℕ) → chunk_spot (check_chunk h c) ≡ spot_said (spot_for h c) (chunk_said (check_chunk h c))
@@ -67,7 +68,7 @@ pub record SaidApart : Type 0 where
   pub checked : Apart checked_said
   pub field : Apart field_said
   -- a chunk's with the place beside
-  pub chunk : (v w : ChunkChecked) → chunk_said v ≡ chunk_said w → chunk_spot v ≡ chunk_spot w → v ≡ w
+  pub chunk : (v w : Result WholeChunk BrokenChunk) → chunk_said v ≡ chunk_said w → chunk_spot v ≡ chunk_spot w → v ≡ w
   pub measured : Apart measured_said
   pub verdict : Apart verdict_said
   pub counted : Apart counted_said

@@ -2,17 +2,17 @@
 -- file (specs/writing/Writer.antt) and the calls' own definitions. A receiver that refuses all contradicts file_read_back,
 -- offers_answered and round_trip, since any_content has lawful inputs; one with a fixed reply contradicts round_trip at two
 -- contents; and a writer that refuses all contradicts file_written.
-use Rattle.std.specs.Prelude.{ℕ, suc, ◌+◌, ◌*◌, ◌/◌, ◌≤◌, ◌<◌, ◌≡◌, false, cond, List, [], ◌∷◌, ◌++◌, map, length}
+use Rattle.std.specs.Prelude.{ℕ, suc, ◌+◌, ◌*◌, ◌/◌, ◌≤◌, ◌<◌, ◌≡◌, false, cond, List, [], ◌∷◌, ◌++◌, map, length, Result, Ok}
 use Rattle.little.specs.Fields.{Bytes}
 use Rattle.little.specs.Parts.{part, put}
 use Rattle.sfc.specs.answer.Numbers.{Answered}
 use Rattle.sfc.specs.format.Limits.{wanted_blocks}
 use Rattle.sfc.specs.session.Lent.{shape_wrong}
 use Rattle.sfc.specs.session.Tallies.{sum}
-use Rattle.sfc.specs.format.Header.{read_header, accepted_header}
+use Rattle.sfc.specs.format.Header.{read_header}
 use Rattle.sfc.specs.format.Chunk.{payload_of}
 use Rattle.sfc.specs.format.Spot.{check_chunk}
-use Rattle.sfc.specs.answer.Places.{number, place}
+use Rattle.sfc.specs.answer.Places.{number, place, complete, whole_at}
 use Rattle.sfc.specs.session.Session.{Session, blank}
 use Rattle.sfc.specs.session.History.{after_all, verdicts}
 use Rattle.sfc.specs.session.Offer.{Logged, blank_logged}
@@ -21,12 +21,9 @@ use Rattle.sfc.specs.give.TurnTheorems.{in_turns}
 use Rattle.little.specs.Runs.{zeros, among}
 use Rattle.sfc.specs.writing.Writer.{Input, size, blocks, body, region, preamble, trailer, payload, chunk, file_of, input_wrong, write_file, head_for}
 use Rattle.sfc.specs.demand.Demand3.{CompleteHasHash}
-use Rattle.sfc.specs.declared.format.chunk.ChunkChecked.TheVariants.{Whole}
 use Rattle.sfc.specs.declared.session.offer.Verdict.{Verdict}
 use Rattle.sfc.specs.declared.session.offer.Verdict.TheVariants.{Fresh, Repeat}
-use Rattle.sfc.specs.declared.give.release.HandedOut.TheVariants.{Complete}
-use Rattle.sfc.specs.declared.answer.written.Written.{Written}
-use Rattle.sfc.specs.declared.answer.written.Written.TheVariants.{Bytes as Took}
+use Rattle.sfc.specs.declared.answer.reason.Reason.{Reason}
 
 -- ---- the words of the demand
 
@@ -64,7 +61,7 @@ answers w seen (i ∷ is) =
 -- a release over y says complete, and gives the content; nothing is left in scratch
 abbrev pub GivenBack : Input → Logged → List ℕ → Type 0
 GivenBack w y out =
-    ◌≡◌ {A = Releasing} (releasing (head_for w) y out) (releasing_of (Complete (place (size w))) 0 (zeros (w.m * w.s)) (put out 0 w.content))
+    ◌≡◌ {A = Releasing} (releasing (head_for w) y out) (releasing_of (Ok (complete (place (size w)))) 0 (zeros (w.m * w.s)) (put out 0 w.content))
 
 -- ---- the demand
 
@@ -74,18 +71,18 @@ pub record Demand2 : Type 0 where
       → shape_wrong (length content) (wanted_blocks (length content) s) m s ≡ false → Lawful (plain content s m uuid)
   -- The writer writes the file that the draft lays down, whole, and nothing after it.
   pub file_written : (w : Input) → Lawful w → (out : List ℕ) → length (file_of w) ≤ length out
-      → ◌≡◌ {A = Answered Written} (write_file w out) (record { answer = Took (length (file_of w)); output = put out 0 (file_of w) })
+      → ◌≡◌ {A = Answered (Result ℕ Reason)} (write_file w out) (record { answer = Ok (length (file_of w)); output = put out 0 (file_of w) })
   pub file_length : (w : Input) → Lawful w → length (file_of w) ≡ 76 + length (body w) + (blocks w + w.m) * (84 + w.s)
   -- From its header and trailer the caller's numbers, name and UUID come back, and the content's hash, whatever lies between: the
   -- file's own chunks or anything else. Indices, fields and time stand in the file as `file_of` lays them.
   pub header_read_back : (w : Input) → Lawful w → (between : List ℕ)
-      → read_header (preamble ++ region w ++ between ++ trailer w) ≡ accepted_header (head_for w)
-  pub file_read_back : (w : Input) → Lawful w → read_header (file_of w) ≡ accepted_header (head_for w)
+      → read_header (preamble ++ region w ++ between ++ trailer w) ≡ Ok (head_for w)
+  pub file_read_back : (w : Input) → Lawful w → read_header (file_of w) ≡ Ok (head_for w)
   -- Chunk i lies in the file where its length says, and is taken for what it is, whatever lies after it.
   pub chunk_in_file : (w : Input) → Lawful w → (i : ℕ) → i < blocks w + w.m
       → part (file_of w) (12 + length (body w) + i * (84 + w.s)) (84 + w.s) ≡ chunk w i
   pub chunk_read_back : (w : Input) → Lawful w → (i : ℕ) → i < blocks w + w.m → (rest : List ℕ)
-      → (check_chunk (head_for w) (chunk w i ++ rest) ≡ Whole (number i) (place 48)) × (payload_of (chunk w i ++ rest) ≡ payload w i)
+      → (check_chunk (head_for w) (chunk w i ++ rest) ≡ Ok (whole_at (number i) (place 48))) × (payload_of (chunk w i ++ rest) ≡ payload w i)
   -- Chunks of the file in any order, repeated at will short of 43, are each welcomed.
   pub offers_answered : (w : Input) → Lawful w → (is : List ℕ) → AllBelow (blocks w + w.m) is → length is ≤ 4294967295
       → verdicts (head_for w) (blank (head_for w)) (map (chunk w) is) ≡ answers w [] is

@@ -1,7 +1,7 @@
 -- Demand 3 of the minutes: no receiver could honestly give more. Statements, proved in proofs/demand/Demand3.antt. They are about the
 -- calls' own definitions and about the writer's code (`code_block`): a list of N blocks fits if its code has, at each held
 -- index, what the store has there. Padding fits like any other bytes, and no hash has a say in it.
-use Rattle.std.specs.Prelude.{ℕ, ◌+◌, ◌*◌, ◌/◌, ◌≤◌, ◌<◌, ◌≡◌, ◌↔◌, true, false, cond, List, [], ◌∷◌, length, take}
+use Rattle.std.specs.Prelude.{ℕ, ◌+◌, ◌*◌, ◌/◌, ◌≤◌, ◌<◌, ◌≡◌, ◌↔◌, true, false, cond, List, [], ◌∷◌, length, take, Result, Ok, Err}
 use Rattle.little.specs.Fields.{Bytes}
 use Rattle.little.specs.Parts.{put, block}
 use Rattle.blake3.specs.Tree.{hash}
@@ -9,8 +9,8 @@ use Rattle.cauchy.specs.Code.{Blocks, Held, Fits}
 use Rattle.cauchy.specs.Decode.{used_marks}
 use Rattle.little.specs.Runs.{zeros, same, among, rising_from}
 use Rattle.sfc.specs.answer.Numbers.{reason_of, Answered}
-use Rattle.sfc.specs.format.Header.{read_header, accepted_header}
-use Rattle.sfc.specs.answer.Places.{number, place}
+use Rattle.sfc.specs.format.Header.{read_header}
+use Rattle.sfc.specs.answer.Places.{number, place, complete, unverified_block}
 use Rattle.sfc.specs.session.Marks.{held_count}
 use Rattle.sfc.specs.session.Session.{Session, blank, block_of, session_wrong}
 use Rattle.sfc.specs.session.History.{after_all}
@@ -25,11 +25,8 @@ use Rattle.sfc.specs.note.Missing.{missing, list_missing}
 use Rattle.sfc.specs.session.SessionTheorems.{OneOffer, ManyOffers, EndState, TalliesCount}
 use Rattle.sfc.specs.declared.format.header.Head.{Head}
 use Rattle.sfc.specs.declared.answer.places.BytePlace.{BytePlace}
-use Rattle.sfc.specs.declared.give.block.BlockGiven.{BlockGiven}
-use Rattle.sfc.specs.declared.give.block.BlockGiven.TheVariants.{Unverified, Refused}
-use Rattle.sfc.specs.declared.give.release.HandedOut.TheVariants.{Complete, Refused as NotHandedOut}
-use Rattle.sfc.specs.declared.note.missing.Listed.{Listed}
-use Rattle.sfc.specs.declared.note.missing.Listed.TheVariants.{Count}
+use Rattle.sfc.specs.declared.answer.reason.Reason.{Reason}
+use Rattle.sfc.specs.declared.give.block.UnverifiedBlock.{UnverifiedBlock}
 
 -- ---- the words of the demand
 
@@ -60,14 +57,14 @@ pub record Room (h : Head) (x : Session) (l : Lent) (bytes : ℕ) : Type 0 where
 -- a request for data block j gives the bytes b, labelled unverified, and nothing past them
 abbrev pub Gives : Head → Session → ℕ → List ℕ → Type 0
 Gives h x j b = (l : Lent) → Room h x l h.s
-    → ◌≡◌ {A = Rebuilding BlockGiven} (block_request h x.store x.marks j l)
-    (record { answer = Unverified (number j) (place (j * h.s)); lent = lent_after true l (put l.output 0 b) })
+    → ◌≡◌ {A = Rebuilding (Result UnverifiedBlock Reason)} (block_request h x.store x.marks j l)
+    (record { answer = Ok (unverified_block (number j) (place (j * h.s))); lent = lent_after true l (put l.output 0 b) })
 
 -- a request for data block j is refused by 50, and the output is as it was
 abbrev pub Withholds : Head → Session → ℕ → Type 0
 Withholds h x j = (l : Lent) → Room h x l h.s
-    → ◌≡◌ {A = Rebuilding BlockGiven} (block_request h x.store x.marks j l)
-    (record { answer = Refused (reason_of 50); lent = lent_after true l l.output })
+    → ◌≡◌ {A = Rebuilding (Result UnverifiedBlock Reason)} (block_request h x.store x.marks j l)
+    (record { answer = Err (reason_of 50); lent = lent_after true l l.output })
 
 -- turns over any scratch, of budgets for all columns, and a release: it gives the first `size` bytes of d, and says complete, if they
 -- have the header's hash; if not, it refuses by 51
@@ -75,8 +72,8 @@ abbrev pub HandsOut : Head → Session → List ℕ → Type 0
 HandsOut h x d = (scratch budgets out : List ℕ) → length scratch ≡ h.m * h.s → h.s / 2 ≤ sum budgets → h.size ≤ length out
     → ◌≡◌ {A = Releasing} (releasing h (in_turns h x scratch budgets) out)
     (cond (same (hash (take h.size d)) h.hash)
-    (releasing_of (Complete (place h.size)) 0 (zeros (h.m * h.s)) (put out 0 (take h.size d)))
-    (releasing_of (NotHandedOut (reason_of 51)) 0 (zeros (h.m * h.s)) out))
+    (releasing_of (Ok (complete (place h.size))) 0 (zeros (h.m * h.s)) (put out 0 (take h.size d)))
+    (releasing_of (Err (reason_of 51)) 0 (zeros (h.m * h.s)) out))
 
 -- data block j is one that nobody could know: too few are held, and it is not
 pub record Open (h : Head) (x : Session) (j : ℕ) : Type 0 where
@@ -104,14 +101,14 @@ pub record Used (h : Head) (x : Session) (d : List ℕ) : Type 0 where
 -- the header's size says
 abbrev pub CompleteHasHash : Type 0
 CompleteHasHash =
-    (h : Head) (store marks scratch : List ℕ) (f : ℕ) (out : List ℕ) (p : BytePlace) → (release h store marks scratch f out).answer ≡ Complete p
+    (h : Head) (store marks scratch : List ℕ) (f : ℕ) (out : List ℕ) (p : BytePlace) → (release h store marks scratch f out).answer ≡ Ok (complete p)
     → (p ≡ place h.size) × (h.size ≤ length out) × (hash (take h.size (release h store marks scratch f out).output) ≡ h.hash)
 
 -- ---- the demand
 
 pub record Demand3 : Type 0 where
   -- The demand begins with an accepted header and chunks: whatever chunks were offered under it, what follows applies.
-  pub accepted_right : (b : List ℕ) (h : Head) → read_header b ≡ accepted_header h → (cs : List (List ℕ)) → AllBytes cs
+  pub accepted_right : (b : List ℕ) (h : Head) → read_header b ≡ Ok h → (cs : List (List ℕ)) → AllBytes cs
       → Right h (after_all h (blank h) cs)
   -- And what is held is what came: each index ends absent, held or barred by the payloads that were offered for it, in any order;
   -- one offer changes no other index; the tallies count the verdicts.
@@ -130,8 +127,8 @@ pub record Demand3 : Type 0 where
   pub missing_exact : (h : Head) (x : Session) → Right h x
       → (rising_from 0 (missing h.n x.marks) ≡ true) × ((j : ℕ) → (among j (missing h.n x.marks) ≡ true) ↔ Open h x j)
   pub missing-given : (h : Head) (x : Session) → Right h x → (out : List ℕ) → length (missing h.n x.marks) ≤ length out
-      → ◌≡◌ {A = Answered Listed} (list_missing h x.marks out)
-      (record { answer = Count (length (missing h.n x.marks)); output = put out 0 (missing h.n x.marks) })
+      → ◌≡◌ {A = Answered (Result ℕ Reason)} (list_missing h x.marks out)
+      (record { answer = Ok (length (missing h.n x.marks)); output = put out 0 (missing h.n x.marks) })
   -- Beside the demand: turns and a release give the same data, and complete is said only of bytes that have the header's hash.
   pub content_known : (h : Head) (x : Session) → Right h x → h.n ≤ held_in x → (d : List ℕ) → Fitting h x d → HandsOut h x d
   pub complete_has_hash : CompleteHasHash

@@ -1,6 +1,6 @@
 -- The sums that document 01 works out, C1 to C10, as one table ("Sums worked and shortcuts barred"). Proved in
 -- proofs/demand/Worked.antt, where the field's and the code's own tables are cited.
-use Rattle.std.specs.Prelude.{ℕ, ◌+◌, ◌<◌, ◌≡◌, List, [], ◌∷◌, ◌++◌, replicate}
+use Rattle.std.specs.Prelude.{ℕ, ◌+◌, ◌<◌, ◌≡◌, List, [], ◌∷◌, ◌++◌, replicate, Ok}
 use Rattle.gf16.specs.Field.{mul, inv}
 use Rattle.cauchy.specs.Code.{code_block}
 use Rattle.cauchy.specs.Decode.{decode}
@@ -10,7 +10,6 @@ use Rattle.sfc.specs.note.Ranges.{Range, ranges}
 use Rattle.sfc.specs.note.Note.{write_note, read_note}
 use Rattle.sfc.specs.note.NoteTheorems.{taken}
 use Rattle.sfc.specs.declared.format.header.Head.{Head}
-use Rattle.sfc.specs.declared.answer.written.Written.TheVariants.{Bytes as Took}
 
 abbrev pub range : ℕ → ℕ → Range
 range a b = record { first = a; last = b }
@@ -63,5 +62,5 @@ pub record Worked : Type 0 where
   -- the ranges of a missing list
   pub c9 : ranges (0 ∷ 1 ∷ 2 ∷ 5 ∷ []) ≡ range 0 2 ∷ range 5 5 ∷ []
   -- the note, written into a longer output and read back
-  pub c10 : write_note sample_head sample_marks (replicate 40 7) ≡ record { answer = Took 39; output = sample_note ++ (7 ∷ []) }
+  pub c10 : write_note sample_head sample_marks (replicate 40 7) ≡ record { answer = Ok 39; output = sample_note ++ (7 ∷ []) }
   pub c10_read : read_note sample_note (replicate 5 7) ≡ taken sample_uuid (range 1 1 ∷ range 3 3 ∷ []) (replicate 5 7)

@@ -1,6 +1,6 @@
 -- The check of a chunk by itself, 71 and 30 to 40 (document 01, "The bytes"; document 001, 5.1 and 5.3), and how long the chunk
 -- at the front of some bytes is. Assumes nothing: these are definitions.
-use Rattle.std.specs.Prelude.{ℕ, ◌+◌, ◌*◌, cond, not, ◌||◌, List, [], ◌∷◌, ◌++◌, ltb, leb, eqb, length, get_or, take}
+use Rattle.std.specs.Prelude.{ℕ, ◌+◌, ◌*◌, cond, not, ◌||◌, List, [], ◌∷◌, ◌++◌, ltb, leb, eqb, length, get_or, take, Result, Ok, Err}
 use Rattle.little.specs.Parts.{part}
 use Rattle.little.specs.Fields.{le}
 use Rattle.blake3.specs.Tree.{hash}
@@ -9,8 +9,7 @@ use Rattle.little.specs.Runs.{zeros}
 use Rattle.sfc.specs.answer.Numbers.{Check, checked}
 use Rattle.sfc.specs.session.Lent.{shape_wrong}
 use Rattle.sfc.specs.declared.format.header.Head.{Head}
-use Rattle.sfc.specs.declared.format.chunk.ChunkMeasured.{ChunkMeasured}
-use Rattle.sfc.specs.declared.format.chunk.ChunkMeasured.TheVariants.{Length, Refused as NotMeasured}
+use Rattle.sfc.specs.declared.answer.reason.Reason.{Reason}
 
 -- a chunk's first four bytes, and its last four
 abbrev pub chunk_magic : List ℕ
@@ -75,8 +74,8 @@ abbrev pub measure_checks : Head → List ℕ → List Check
 measure_checks h b = (shape_wrong h.size h.n h.m h.s, 71) ∷ length_checks h.s b
 
 -- how many bytes it takes up
-unfoldable pub measure_chunk : Head → List ℕ → ChunkMeasured
-measure_chunk h b = checked (measure_checks h b) NotMeasured (Length (chunk_length b))
+unfoldable pub measure_chunk : Head → List ℕ → Result ℕ Reason
+measure_chunk h b = checked (measure_checks h b) Err (Ok (chunk_length b))
 
 -- of a chunk by itself, whose answer is in Spot; 43, 42 and 41 are a session's
 abbrev pub alone_checks : Head → List ℕ → List Check

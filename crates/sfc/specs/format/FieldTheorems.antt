@@ -1,12 +1,11 @@
 -- What the walk over extension fields finds: every field, in order, and all the bytes; and that a field found is where it is said
 -- to be. Statements, proved in proofs/format: FieldWalk, FieldInside.
-use Rattle.std.specs.Prelude.{ℕ, ◌+◌, ◌-◌, ◌≤◌, ◌≡◌, true, false, List, [], ◌∷◌, ◌++◌, length, drop}
+use Rattle.std.specs.Prelude.{ℕ, ◌+◌, ◌-◌, ◌≤◌, ◌≡◌, true, false, List, [], ◌∷◌, ◌++◌, length, drop, Some}
 use Rattle.little.specs.Parts.{part}
 use Rattle.little.specs.Fields.{Bytes, le}
 use Rattle.sfc.specs.format.Extension.{joined_fields, field_at, whole_field, fields_in, left_in, fields_of, left_of, extension_wrong}
-use Rattle.sfc.specs.answer.Places.{place}
+use Rattle.sfc.specs.answer.Places.{place, field_found}
 use Rattle.sfc.specs.format.Lookup.{found_among, value_among}
-use Rattle.sfc.specs.declared.format.lookup.FieldFound.TheVariants.{At}
 
 pub record FieldWalk : Type 0 where
   -- the bound means nothing: a larger one changes neither the fields nor what is left
@@ -22,5 +21,5 @@ pub record FieldWalk : Type 0 where
 
 pub record FieldLookup : Type 0 where
   -- what is found among the fields of e, whose first byte is at place `at`, is the value of the first field with that tag
-  pub value_there : (e : List ℕ) (tag at p long : ℕ) → found_among tag at (fields_of e) ≡ At (place p) long
+  pub value_there : (e : List ℕ) (tag at p long : ℕ) → found_among tag at (fields_of e) ≡ Some (field_found (place p) long)
       → (at ≤ p) × (part e (p - at) long ≡ value_among tag (fields_of e))

@@ -1,17 +1,15 @@
 -- What reading a header answers (document 01, "The bytes", and its table, 10 to 23). Assumes nothing: these are definitions.
-use Rattle.std.specs.Prelude.{ℕ, zero, suc, ◌+◌, ◌-◌, ◌*◌, Bool, true, not, ◌&&◌, ◌||◌, List, [], ◌∷◌, ◌++◌, ltb, eqb, length, get_or, drop}
+use Rattle.std.specs.Prelude.{ℕ, zero, suc, ◌+◌, ◌-◌, ◌*◌, Bool, true, not, ◌&&◌, ◌||◌, List, [], ◌∷◌, ◌++◌, ltb, eqb, length, get_or, drop, Result, Ok, Err}
 use Rattle.little.specs.Parts.{part}
 use Rattle.little.specs.Fields.{le}
 use Rattle.blake3.specs.Tree.{hash}
 use Rattle.sfc.specs.format.Bytes.{stands_at, padded, before_zero, bit}
 use Rattle.little.specs.Runs.{any, zeros}
-use Rattle.sfc.specs.answer.Numbers.{Check, checked}
+use Rattle.sfc.specs.answer.Numbers.{Check, checked, Checked}
 use Rattle.sfc.specs.format.Limits.{unlawful, above_house, length_wrong}
 use Rattle.sfc.specs.format.Extension.{extension_wrong}
 use Rattle.sfc.specs.declared.answer.reason.Reason.{Reason}
-use Rattle.sfc.specs.declared.answer.reason.Checked.TheVariants.{Good, Refused}
 use Rattle.sfc.specs.declared.format.header.Head.{Head}
-use Rattle.sfc.specs.declared.format.header.HeaderRead.{HeaderRead}
 
 -- the preamble's first four bytes, and the trailer's first eight
 abbrev pub magic : List ℕ
@@ -48,24 +46,6 @@ head_of r = record {
   compression = get_or r 330 0;
   flags = le r 331 2;
   priorities = le r 333 2;
-}
-
-abbrev pub blank_head : Head
-blank_head = record {
-  header_length = 0;
-  uuid = zeros 16;
-  size = 0;
-  format = 0;
-  name = zeros 255;
-  name_length = 0;
-  hash = zeros 32;
-  n = 0;
-  m = 0;
-  s = 0;
-  erasure = 0;
-  compression = 0;
-  flags = 0;
-  priorities = 0;
 }
 
 -- 16
@@ -131,12 +111,11 @@ trailer_checks r t =
 abbrev pub header_checks : List ℕ → List Check
 header_checks b = start_checks b ++ (region_checks (region_of b) ++ trailer_checks (region_of b) (trailer_of b))
 
-abbrev pub refused_header : Reason → HeaderRead
-refused_header r = record { verdict = Refused r; head = blank_head }
+-- the fields of an accepted header; with a refusal only its reason
+unfoldable pub read_header : List ℕ → Result Head Reason
+read_header b = checked (header_checks b) Err (Ok (head_of (region_of b)))
 
-abbrev pub accepted_header : Head → HeaderRead
-accepted_header h = record { verdict = Good; head = h }
-
--- the fields of an accepted header; with a refusal only its number, and zeros
-unfoldable pub read_header : List ℕ → HeaderRead
-read_header b = checked (header_checks b) refused_header (accepted_header (head_of (region_of b)))
+-- what was judged of it, without the fields
+abbrev pub header_verdict : Result Head Reason → Checked
+header_verdict (Ok h) = Ok tt
+header_verdict (Err r) = Err r

@@ -1,17 +1,16 @@
 -- The block request (document 01, "Marks, hand-out, prefix"): one data block, never more than unverified. Assumes nothing:
 -- these are definitions.
-use Rattle.std.specs.Prelude.{ℕ, ◌*◌, not, ◌&&◌, List, [], ◌∷◌, ◌++◌, ltb, leb, length, get_or}
+use Rattle.std.specs.Prelude.{ℕ, ◌*◌, not, ◌&&◌, List, [], ◌∷◌, ◌++◌, ltb, leb, length, get_or, Result, Ok, Err}
 use Rattle.little.specs.Parts.{put}
 use Rattle.cauchy.specs.Decode.{decode}
 use Rattle.sfc.specs.answer.Numbers.{Check, checked, passes}
-use Rattle.sfc.specs.answer.Places.{number, place}
+use Rattle.sfc.specs.answer.Places.{number, place, unverified_block}
 use Rattle.sfc.specs.session.Marks.{is_held, held_count}
 use Rattle.sfc.specs.give.HandOut.{Rebuilding, lent_after}
 use Rattle.sfc.specs.session.Lent.{Lent, rebuild_wrong}
 use Rattle.sfc.specs.declared.format.header.Head.{Head}
 use Rattle.sfc.specs.declared.answer.reason.Reason.{Reason}
-use Rattle.sfc.specs.declared.give.block.BlockGiven.{BlockGiven}
-use Rattle.sfc.specs.declared.give.block.BlockGiven.TheVariants.{Unverified, Refused}
+use Rattle.sfc.specs.declared.give.block.UnverifiedBlock.{UnverifiedBlock}
 
 -- the S bytes of data block j, padding included: as it is held or, with N held, rebuilt as for the hand-out
 abbrev pub block_given : Head → List ℕ → List ℕ → ℕ → List ℕ
@@ -26,8 +25,8 @@ abbrev pub block_checks : Head → List ℕ → List ℕ → ℕ → Lent → Li
 block_checks h store marks j l = block_lent h store marks j l ++ ((ltb (held_count marks) h.n && not (is_held (get_or marks j 0)), 50) ∷ [])
 
 -- the block asked for, and the place of its first byte in the content; labelled unverified
-unfoldable pub block_request : Head → List ℕ → List ℕ → ℕ → Lent → Rebuilding BlockGiven
+unfoldable pub block_request : Head → List ℕ → List ℕ → ℕ → Lent → Rebuilding (Result UnverifiedBlock Reason)
 block_request h store marks j l = record {
-  answer = checked (block_checks h store marks j l) Refused (Unverified (number j) (place (j * h.s)));
+  answer = checked (block_checks h store marks j l) Err (Ok (unverified_block (number j) (place (j * h.s))));
   lent = lent_after (passes (block_lent h store marks j l)) l (checked (block_checks h store marks j l) (λ (r : Reason). l.output) (put l.output 0 (block_given h store marks j)));
 }

@@ -1,18 +1,17 @@
 -- The hand-out (document 01, "Marks, hand-out, prefix"): what turns and a release come to (give/Turns, give/TurnTheorems), and
 -- what a call that rebuilds leaves of scratch. Assumes nothing: these are definitions.
-use Rattle.std.specs.Prelude.{ℕ, Bool, cond, not, List, [], ◌∷◌, ◌++◌, ltb, length, take}
+use Rattle.std.specs.Prelude.{ℕ, Bool, cond, not, List, [], ◌∷◌, ◌++◌, ltb, length, take, Result, Ok, Err}
 use Rattle.little.specs.Parts.{put}
 use Rattle.blake3.specs.Tree.{hash}
 use Rattle.cauchy.specs.Decode.{decoded}
 use Rattle.little.specs.Runs.{zeros, same}
 use Rattle.sfc.specs.answer.Numbers.{Check, checked, Answered}
-use Rattle.sfc.specs.answer.Places.{place}
+use Rattle.sfc.specs.answer.Places.{place, complete}
 use Rattle.sfc.specs.session.Marks.{held_count}
 use Rattle.sfc.specs.session.Lent.{Lent, lent_of, lent_wrong}
 use Rattle.sfc.specs.declared.format.header.Head.{Head}
 use Rattle.sfc.specs.declared.answer.reason.Reason.{Reason}
-use Rattle.sfc.specs.declared.give.release.HandedOut.{HandedOut}
-use Rattle.sfc.specs.declared.give.release.HandedOut.TheVariants.{Complete, Refused}
+use Rattle.sfc.specs.declared.give.release.Complete.{Complete}
 
 -- what a call that rebuilds and gives answers, and what is lent holds afterwards
 pub record Rebuilding (A : Type 0) : Type 0 where
@@ -49,8 +48,8 @@ abbrev pub hand_out_checks : Head → List ℕ → List ℕ → List ℕ → Lis
 hand_out_checks h store marks out = hand_out_lent h store marks out ++ content_checks h store marks
 
 -- complete, with the size as the place where the answer ends; the output changes with no refusal, and never past that place
-unfoldable pub hand_out : Head → List ℕ → List ℕ → List ℕ → Answered HandedOut
+unfoldable pub hand_out : Head → List ℕ → List ℕ → List ℕ → Answered (Result Complete Reason)
 hand_out h store marks out = record {
-  answer = checked (hand_out_checks h store marks out) Refused (Complete (place h.size));
+  answer = checked (hand_out_checks h store marks out) Err (Ok (complete (place h.size)));
   output = checked (hand_out_checks h store marks out) (λ (r : Reason). out) (put out 0 (content_of h store marks));
 }

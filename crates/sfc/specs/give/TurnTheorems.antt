@@ -1,6 +1,6 @@
 -- What is proved of turns and releases (document 02, [8]): statements, proved in proofs/give/TurnTheorems.antt. h is any head, y all
 -- that is kept of a session; store, marks, scratch, numbers and output are any bytes, f and b any numbers.
-use Rattle.std.specs.Prelude.{ℕ, suc, ◌+◌, ◌-◌, ◌*◌, ◌/◌, ◌≤◌, ◌<◌, min, ◌≡◌, ◌≢◌, ◌↔◌, false, List, [], ◌∷◌, length, get_or}
+use Rattle.std.specs.Prelude.{ℕ, suc, ◌+◌, ◌-◌, ◌*◌, ◌/◌, ◌≤◌, ◌<◌, min, ◌≡◌, ◌≢◌, ◌↔◌, false, List, [], ◌∷◌, length, get_or, Ok}
 use Rattle.little.specs.Parts.{put}
 use Rattle.little.specs.Runs.{zeros}
 use Rattle.blake3.specs.Tree.{hash}
@@ -8,7 +8,7 @@ use Rattle.cauchy.specs.Code.{word_at, word_of}
 use Rattle.cauchy.specs.Decode.{missing_data, decode}
 use Rattle.cauchy.specs.Calls.{in_range}
 use Rattle.sfc.specs.answer.Numbers.{number_of}
-use Rattle.sfc.specs.answer.Places.{place, columns}
+use Rattle.sfc.specs.answer.Places.{place, columns, complete}
 use Rattle.sfc.specs.session.Marks.{held_count}
 use Rattle.sfc.specs.session.Lent.{columns_wrong}
 use Rattle.sfc.specs.session.Tallies.{sum}
@@ -22,8 +22,6 @@ use Rattle.sfc.specs.declared.answer.reason.Reason.{Reason}
 use Rattle.sfc.specs.declared.answer.places.BlockNumber.{BlockNumber}
 use Rattle.sfc.specs.declared.answer.places.BytePlace.{BytePlace}
 use Rattle.sfc.specs.declared.session.offer.Verdict.TheVariants.{Fresh, Repeat, Refused}
-use Rattle.sfc.specs.declared.give.turn.Turned.TheVariants.{Did}
-use Rattle.sfc.specs.declared.give.release.HandedOut.TheVariants.{Complete}
 
 -- ---- the words of the theorems
 
@@ -128,7 +126,7 @@ pub record Restart : Type 0 where
 
 pub record InTurns : Type 0 where
   -- A turn does the smaller of budget and columns left, and finishes just so many more.
-  pub turn-counts : (h : Head) (store marks scratch numbers : List ℕ) (f b k : ℕ) → (turn h store marks scratch numbers f b).answer ≡ Did (columns k)
+  pub turn-counts : (h : Head) (store marks scratch numbers : List ℕ) (f b k : ℕ) → (turn h store marks scratch numbers f b).answer ≡ Ok (columns k)
       → DidColumns h store marks scratch f b k (turn h store marks scratch numbers f b)
   -- Whatever was offered, rebuilt and released in a session that began blank, its finished columns are right.
   pub columns_right : (h : Head) (acts : List Act) → ColumnsRight h (acted_all h (blank_logged h) acts)
@@ -140,9 +138,9 @@ pub record InTurns : Type 0 where
   -- A release says complete just where nothing is in the way, for any scratch and any count, forged ones too; what it then gives is what
   -- it judged.
   pub release_judges : (h : Head) (store marks scratch : List ℕ) (f : ℕ) (out : List ℕ)
-      → ((release h store marks scratch f out).answer ≡ Complete (place h.size)) ↔ Releasable h store marks scratch f out
+      → ((release h store marks scratch f out).answer ≡ Ok (complete (place h.size))) ↔ Releasable h store marks scratch f out
   pub release_gives : (h : Head) (store marks scratch : List ℕ) (f : ℕ) (out : List ℕ) (p : BytePlace)
-      → (release h store marks scratch f out).answer ≡ Complete p
+      → (release h store marks scratch f out).answer ≡ Ok (complete p)
       → (p ≡ place h.size) × ((release h store marks scratch f out).output ≡ put out 0 (joined_of h store marks scratch))
   -- Turns from the first column on over any scratch, with budgets for all columns, and then a release: the hand-out. And so is a release
   -- after any history of a session, where no column is left that could be rebuilt.

@@ -1,6 +1,6 @@
 -- The hand-out in two calls (document 02, [8]): turns that rebuild word columns of the missing blocks into scratch, and a release
 -- that judges the content and gives it; and histories of offers, turns and releases. Assumes nothing: these are definitions.
-use Rattle.std.specs.Prelude.{ℕ, ◌+◌, ◌-◌, ◌/◌, min, cond, not, ◌||◌, List, [], ◌∷◌, ◌++◌, ltb, eqb, length, get_or, take}
+use Rattle.std.specs.Prelude.{ℕ, ◌+◌, ◌-◌, ◌/◌, min, cond, not, ◌||◌, List, [], ◌∷◌, ◌++◌, ltb, eqb, length, get_or, take, Result, Ok, Err}
 use Rattle.little.specs.Parts.{block, put}
 use Rattle.little.specs.Runs.{zeros, same}
 use Rattle.blake3.specs.Tree.{hash}
@@ -8,16 +8,14 @@ use Rattle.cauchy.specs.Code.{joined}
 use Rattle.cauchy.specs.Decode.{missing_data, rank}
 use Rattle.cauchy.specs.Calls.{rebuilt_scratch}
 use Rattle.sfc.specs.answer.Numbers.{Check, checked, passes}
-use Rattle.sfc.specs.answer.Places.{place, columns}
+use Rattle.sfc.specs.answer.Places.{place, columns, complete}
 use Rattle.sfc.specs.session.Marks.{is_held, held_count}
 use Rattle.sfc.specs.session.Lent.{columns_wrong}
 use Rattle.sfc.specs.session.Offer.{Logged, logged, logged_after}
 use Rattle.sfc.specs.declared.format.header.Head.{Head}
 use Rattle.sfc.specs.declared.answer.reason.Reason.{Reason}
-use Rattle.sfc.specs.declared.give.turn.Turned.{Turned}
-use Rattle.sfc.specs.declared.give.turn.Turned.TheVariants.{Did, Refused as NoTurn}
-use Rattle.sfc.specs.declared.give.release.HandedOut.{HandedOut}
-use Rattle.sfc.specs.declared.give.release.HandedOut.TheVariants.{Complete, Refused}
+use Rattle.sfc.specs.declared.answer.places.ColumnCount.{ColumnCount}
+use Rattle.sfc.specs.declared.give.release.Complete.{Complete}
 
 -- how many data blocks are missing
 abbrev pub gone : ℕ → List ℕ → ℕ
@@ -31,12 +29,12 @@ columns_left n s marks f = cond (eqb (gone n marks) 0) 0 (s / 2 - f)
 
 -- what a turn answers and leaves; the finished columns go out as they came in, by value
 pub record Turning : Type 0 where
-  pub answer : Turned
+  pub answer : Result ColumnCount Reason
   pub finished : ℕ
   pub scratch : List ℕ
   pub numbers : List ℕ
 
-abbrev pub turning_of : Turned → ℕ → List ℕ → List ℕ → Turning
+abbrev pub turning_of : Result ColumnCount Reason → ℕ → List ℕ → List ℕ → Turning
 turning_of answer finished scratch numbers = record { answer = answer; finished = finished; scratch = scratch; numbers = numbers }
 
 abbrev pub turn_checks : Head → List ℕ → List ℕ → List ℕ → List ℕ → ℕ → List Check
@@ -52,12 +50,12 @@ turn_count h marks f budget = min budget (columns_left h.n h.s marks f)
 -- so many columns more, from the first unfinished one on
 abbrev pub turn_done : Head → List ℕ → List ℕ → List ℕ → ℕ → ℕ → Turning
 turn_done h store marks scratch f count =
-    turning_of (Did (columns count)) (f + count) (rebuilt_scratch h.n h.m h.s marks store f count scratch) (zeros 1024)
+    turning_of (Ok (columns count)) (f + count) (rebuilt_scratch h.n h.m h.s marks store f count scratch) (zeros 1024)
 
 -- a refusal changes nothing
 unfoldable pub turn : Head → List ℕ → List ℕ → List ℕ → List ℕ → ℕ → ℕ → Turning
 turn h store marks scratch numbers f budget =
-    checked (turn_checks h store marks scratch numbers f) (λ (r : Reason). turning_of (NoTurn r) f scratch numbers)
+    checked (turn_checks h store marks scratch numbers f) (λ (r : Reason). turning_of (Err r) f scratch numbers)
     (turn_done h store marks scratch f (turn_count h marks f budget))
 
 -- ---- a release
@@ -75,12 +73,12 @@ joined_of h store marks scratch = joined_bytes h.size h.n h.s store marks scratc
 
 -- what a release answers and leaves
 pub record Releasing : Type 0 where
-  pub answer : HandedOut
+  pub answer : Result Complete Reason
   pub finished : ℕ
   pub scratch : List ℕ
   pub output : List ℕ
 
-abbrev pub releasing_of : HandedOut → ℕ → List ℕ → List ℕ → Releasing
+abbrev pub releasing_of : Result Complete Reason → ℕ → List ℕ → List ℕ → Releasing
 releasing_of answer finished scratch output = record { answer = answer; finished = finished; scratch = scratch; output = output }
 
 -- the checks whose refusal leaves everything as it was, and then 51
@@ -101,7 +99,7 @@ release_checks h store marks scratch f out = release_lent h store marks scratch 
 -- complete, with the size as the place where the answer ends; past 54 the rebuild is over, whatever the hash says
 unfoldable pub release : Head → List ℕ → List ℕ → List ℕ → ℕ → List ℕ → Releasing
 release h store marks scratch f out = record {
-  answer = checked (release_checks h store marks scratch f out) Refused (Complete (place h.size));
+  answer = checked (release_checks h store marks scratch f out) Err (Ok (complete (place h.size)));
   finished = cond (passes (release_lent h store marks scratch f out)) 0 f;
   scratch = cond (passes (release_lent h store marks scratch f out)) (zeros (length scratch)) scratch;
   output = checked (release_checks h store marks scratch f out) (λ (r : Reason). out) (put out 0 (joined_of h store marks scratch));

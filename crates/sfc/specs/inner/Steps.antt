@@ -1,6 +1,6 @@
 -- What the session's inner functions promise of an offer: one block's part in it, and the verdict before its place is found. A
 -- reader of the promises can skip this file.
-use Rattle.std.specs.Prelude.{ℕ, ◌≡◌, cond, false, List, eqb, length}
+use Rattle.std.specs.Prelude.{ℕ, ◌≡◌, cond, false, List, eqb, length, Ok}
 use Rattle.little.specs.Runs.{zeros, same}
 use Rattle.sfc.specs.answer.Numbers.{verdict}
 use Rattle.sfc.specs.format.Chunk.{chunk_checks}
@@ -8,7 +8,6 @@ use Rattle.sfc.specs.session.Tallies.{tally_full}
 use Rattle.sfc.specs.session.Session.{Session, session_of, session_wrong, verdict_of, after}
 use Rattle.sfc.specs.declared.format.header.Head.{Head}
 use Rattle.sfc.specs.declared.session.tallies.Tallies.{Tallies}
-use Rattle.sfc.specs.declared.answer.reason.Checked.TheVariants.{Good}
 use Rattle.sfc.specs.declared.session.offer.Verdict.{Verdict}
 use Rattle.sfc.specs.declared.session.offer.Step.{Step}
 use Rattle.sfc.specs.declared.session.offer.Step.TheVariants.{Laid, Copy, Differs, Barred}
@@ -30,7 +29,7 @@ stepped mark block payload =
 pub record Welcome (h : Head) (x : Session) (c : List ℕ) : Type 0 where
   pub lent : session_wrong h x ≡ false
   pub room : tally_full x.tallies ≡ false
-  pub whole : verdict (chunk_checks h c) ≡ Good
+  pub whole : verdict (chunk_checks h c) ≡ Ok tt
 
 -- what an offer leaves, and its verdict
 pub record Judged : Type 0 where

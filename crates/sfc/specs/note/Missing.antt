@@ -1,14 +1,12 @@
 -- Which data blocks are unknown, and the call that lists them (document 01, "Resend note and listing"). Assumes nothing: these
 -- are definitions.
-use Rattle.std.specs.Prelude.{ℕ, suc, cond, List, [], ◌∷◌, ltb, leb, length, take}
+use Rattle.std.specs.Prelude.{ℕ, suc, cond, List, [], ◌∷◌, ltb, leb, length, take, Result, Ok, Err}
 use Rattle.little.specs.Parts.{put}
 use Rattle.sfc.specs.answer.Numbers.{Check, checked, Answered}
 use Rattle.sfc.specs.session.Marks.{is_held, held_count}
 use Rattle.sfc.specs.session.Lent.{marks_wrong}
 use Rattle.sfc.specs.declared.format.header.Head.{Head}
 use Rattle.sfc.specs.declared.answer.reason.Reason.{Reason}
-use Rattle.sfc.specs.declared.note.missing.Listed.{Listed}
-use Rattle.sfc.specs.declared.note.missing.Listed.TheVariants.{Count, Refused}
 
 -- the indices of the marks that do not say held, where the first mark has index i
 unfoldable pub unheld_from : ℕ → List ℕ → List ℕ
@@ -25,8 +23,8 @@ abbrev pub missing_checks : Head → List ℕ → List ℕ → List Check
 missing_checks h marks out =
     (marks_wrong h.size h.n h.m h.s marks, 71) ∷ (ltb (length out) (length (missing h.n marks)), 52) ∷ []
 
-unfoldable pub list_missing : Head → List ℕ → List ℕ → Answered Listed
+unfoldable pub list_missing : Head → List ℕ → List ℕ → Answered (Result ℕ Reason)
 list_missing h marks out = record {
-  answer = checked (missing_checks h marks out) Refused (Count (length (missing h.n marks)));
+  answer = checked (missing_checks h marks out) Err (Ok (length (missing h.n marks)));
   output = checked (missing_checks h marks out) (λ (r : Reason). out) (put out 0 (missing h.n marks));
 }

@@ -1,18 +1,14 @@
 -- The resend note: its bytes, writing one and reading one (document 01, "Resend note and listing"). Assumes nothing: these
 -- are definitions.
-use Rattle.std.specs.Prelude.{ℕ, zero, suc, ◌+◌, ◌*◌, ◌/◌, ◌%◌, Bool, not, ◌||◌, List, [], ◌∷◌, ◌++◌, ltb, eqb, length, get_or}
+use Rattle.std.specs.Prelude.{ℕ, zero, suc, ◌+◌, ◌*◌, ◌/◌, ◌%◌, Bool, not, ◌||◌, List, [], ◌∷◌, ◌++◌, ltb, eqb, length, get_or, Result, Ok, Err}
 use Rattle.little.specs.Parts.{part, put}
-use Rattle.little.specs.Runs.{zeros}
 use Rattle.sfc.specs.answer.Numbers.{Answered, Check, checked}
 use Rattle.sfc.specs.session.Lent.{marks_wrong}
 use Rattle.sfc.specs.note.Missing.{missing}
 use Rattle.sfc.specs.note.Ranges.{Range, ranges, maximal, bounds}
 use Rattle.sfc.specs.declared.format.header.Head.{Head}
 use Rattle.sfc.specs.declared.answer.reason.Reason.{Reason}
-use Rattle.sfc.specs.declared.answer.reason.Checked.TheVariants.{Good, Refused}
 use Rattle.sfc.specs.declared.note.resend.NoteRead.{NoteRead}
-use Rattle.sfc.specs.declared.answer.written.Written.{Written}
-use Rattle.sfc.specs.declared.answer.written.Written.TheVariants.{Bytes, Refused as Unwritten}
 
 -- ---- big-endian fields
 
@@ -48,9 +44,9 @@ abbrev pub note_checks : Head → List ℕ → List ℕ → List Check
 note_checks h marks out =
     (marks_wrong h.size h.n h.m h.s marks, 71) ∷ (ltb (length out) (length (note_for h marks)), 52) ∷ []
 
-unfoldable pub write_note : Head → List ℕ → List ℕ → Answered Written
+unfoldable pub write_note : Head → List ℕ → List ℕ → Answered (Result ℕ Reason)
 write_note h marks out = record {
-  answer = checked (note_checks h marks out) Unwritten (Bytes (length (note_for h marks)));
+  answer = checked (note_checks h marks out) Err (Ok (length (note_for h marks)));
   output = checked (note_checks h marks out) (λ (r : Reason). out) (put out 0 (note_for h marks));
 }
 
@@ -81,14 +77,11 @@ malformed b =
 abbrev pub read_checks : List ℕ → List ℕ → List Check
 read_checks b out = (malformed b, 70) ∷ (ltb (length out) (2 * count_in b), 52) ∷ []
 
-abbrev pub refused_note : Reason → NoteRead
-refused_note r = record { verdict = Refused r; uuid = zeros 16; ranges = 0 }
-
 abbrev pub good_note : List ℕ → NoteRead
-good_note b = record { verdict = Good; uuid = uuid_in b; ranges = count_in b }
+good_note b = record { uuid = uuid_in b; ranges = count_in b }
 
-unfoldable pub read_note : List ℕ → List ℕ → Answered NoteRead
+unfoldable pub read_note : List ℕ → List ℕ → Answered (Result NoteRead Reason)
 read_note b out = record {
-  answer = checked (read_checks b out) refused_note (good_note b);
+  answer = checked (read_checks b out) Err (Ok (good_note b));
   output = checked (read_checks b out) (λ (r : Reason). out) (put out 0 (bounds (ranges_in b)));
 }

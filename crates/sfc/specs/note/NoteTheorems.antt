@@ -1,6 +1,6 @@
 -- What is proved of the missing list, of ranges and of notes (document 01, "Resend note and listing"; minutes, demand 3):
 -- statements. Proved in proofs/note/MissingExact, RangesExact, RangesFew, NoteBack and NoteExact.
-use Rattle.std.specs.Prelude.{ℕ, ◌+◌, ◌*◌, ◌^◌, ◌≤◌, ◌<◌, ◌≡◌, ◌↔◌, Bool, true, false, not, ◌&&◌, List, [], ◌∷◌, leb, ltb, length, get_or}
+use Rattle.std.specs.Prelude.{ℕ, ◌+◌, ◌*◌, ◌^◌, ◌≤◌, ◌<◌, ◌≡◌, ◌↔◌, Bool, true, false, not, ◌&&◌, List, [], ◌∷◌, leb, ltb, length, get_or, Result, Ok}
 use Rattle.little.specs.Parts.{put}
 use Rattle.little.specs.Fields.{Bytes}
 use Rattle.little.specs.Runs.{any, among, rising_from}
@@ -11,10 +11,8 @@ use Rattle.sfc.specs.note.Missing.{missing}
 use Rattle.sfc.specs.note.Ranges.{Range, ranges, maximal, bounds, bounds_for, list_ranges}
 use Rattle.sfc.specs.note.Note.{note_of, malformed, read_note}
 use Rattle.sfc.specs.declared.format.header.Head.{Head}
-use Rattle.sfc.specs.declared.note.missing.Listed.{Listed}
-use Rattle.sfc.specs.declared.note.missing.Listed.TheVariants.{Count}
 use Rattle.sfc.specs.declared.note.resend.NoteRead.{NoteRead}
-use Rattle.sfc.specs.declared.answer.reason.Checked.TheVariants.{Good}
+use Rattle.sfc.specs.declared.answer.reason.Reason.{Reason}
 
 abbrev pub covered : ℕ → List Range → Bool
 covered i rs = any (λ (r : Range). leb r.first i && leb i r.last) rs
@@ -39,7 +37,7 @@ pub record RangesFew : Type 0 where
   pub bounds-few : (n : ℕ) (marks : List ℕ) → n ≤ 1024 → length (bounds (ranges (missing n marks))) ≤ 1024
   -- with right marks and so much lent, the call always lists them
   pub ranges-given : (h : Head) (marks out : List ℕ) → marks_wrong h.size h.n h.m h.s marks ≡ false → 1024 ≤ length out
-      → ◌≡◌ {A = Answered Listed} (list_ranges h marks out) (record { answer = Count (length (bounds_for h marks)); output = put out 0 (bounds_for h marks) })
+      → ◌≡◌ {A = Answered (Result ℕ Reason)} (list_ranges h marks out) (record { answer = Ok (length (bounds_for h marks)); output = put out 0 (bounds_for h marks) })
 
 -- every index has 32 bits
 abbrev pub Small : List Range → Type 0
@@ -54,9 +52,9 @@ pub record Sayable (uuid : List ℕ) (rs : List Range) : Type 0 where
   pub indices : Small rs
   pub few : length rs < 2 ^ 16
 
-abbrev pub taken : List ℕ → List Range → List ℕ → Answered NoteRead
+abbrev pub taken : List ℕ → List Range → List ℕ → Answered (Result NoteRead Reason)
 taken uuid rs out =
-    record { answer = record { verdict = Good; uuid = uuid; ranges = length rs }; output = put out 0 (bounds rs) }
+    record { answer = Ok (record { uuid = uuid; ranges = length rs }); output = put out 0 (bounds rs) }
 
 pub record NoteTheorems : Type 0 where
   -- a note gives back what it says

@@ -1,14 +1,12 @@
 -- The ranges that rising indices make, and the ranges of the unknown data blocks (document 01, "Resend note and listing").
 -- Assumes nothing: these are definitions.
-use Rattle.std.specs.Prelude.{ℕ, suc, ◌+◌, Bool, true, cond, ◌&&◌, List, [], ◌∷◌, ltb, leb, eqb, length}
+use Rattle.std.specs.Prelude.{ℕ, suc, ◌+◌, Bool, true, cond, ◌&&◌, List, [], ◌∷◌, ltb, leb, eqb, length, Result, Ok, Err}
 use Rattle.little.specs.Parts.{put}
 use Rattle.sfc.specs.answer.Numbers.{Check, checked, Answered}
 use Rattle.sfc.specs.session.Lent.{marks_wrong}
 use Rattle.sfc.specs.note.Missing.{missing}
 use Rattle.sfc.specs.declared.format.header.Head.{Head}
 use Rattle.sfc.specs.declared.answer.reason.Reason.{Reason}
-use Rattle.sfc.specs.declared.note.missing.Listed.{Listed}
-use Rattle.sfc.specs.declared.note.missing.Listed.TheVariants.{Count, Refused}
 
 pub record Range : Type 0 where
   pub first : ℕ
@@ -47,8 +45,8 @@ abbrev pub range_checks : Head → List ℕ → List ℕ → List Check
 range_checks h marks out =
     (marks_wrong h.size h.n h.m h.s marks, 71) ∷ (ltb (length out) (length (bounds_for h marks)), 52) ∷ []
 
-unfoldable pub list_ranges : Head → List ℕ → List ℕ → Answered Listed
+unfoldable pub list_ranges : Head → List ℕ → List ℕ → Answered (Result ℕ Reason)
 list_ranges h marks out = record {
-  answer = checked (range_checks h marks out) Refused (Count (length (bounds_for h marks)));
+  answer = checked (range_checks h marks out) Err (Ok (length (bounds_for h marks)));
   output = checked (range_checks h marks out) (λ (r : Reason). out) (put out 0 (bounds_for h marks));
 }

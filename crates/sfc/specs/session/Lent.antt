@@ -1,12 +1,13 @@
 -- 71, wherever a call gives it (document 01, its table): what is handed in and lent does not fit together. Assumes nothing: these
 -- are definitions.
-use Rattle.std.specs.Prelude.{ℕ, ◌+◌, ◌*◌, ◌/◌, Bool, not, ◌||◌, List, [], ◌∷◌, ltb, eqb, length}
+use Rattle.std.specs.Prelude.{ℕ, ◌+◌, ◌*◌, ◌/◌, Bool, not, ◌||◌, List, [], ◌∷◌, ltb, eqb, length, Result, Ok, Err}
 use Rattle.sfc.specs.answer.Numbers.{Check, checked}
 use Rattle.sfc.specs.format.Limits.{unlawful, above_house}
 use Rattle.sfc.specs.session.Marks.{held_count, barred_count, marks_known}
 use Rattle.sfc.specs.declared.format.header.Head.{Head}
 use Rattle.sfc.specs.declared.session.marks.MarksCounted.{MarksCounted}
-use Rattle.sfc.specs.declared.session.marks.MarksCounted.TheVariants.{Counts, Refused}
+use Rattle.sfc.specs.declared.answer.reason.Reason.{Reason}
+use Rattle.sfc.specs.answer.Places.{counts}
 
 -- the four numbers handed in are against 14 or 15
 unfoldable pub shape_wrong : ℕ → ℕ → ℕ → ℕ → Bool
@@ -47,5 +48,5 @@ columns_wrong size n m s store marks scratch finished = lent_wrong size n m s st
 abbrev pub count_checks : Head → List ℕ → List Check
 count_checks h marks = (marks_wrong h.size h.n h.m h.s marks, 71) ∷ []
 
-unfoldable pub count_marks : Head → List ℕ → MarksCounted
-count_marks h marks = checked (count_checks h marks) Refused (Counts (held_count marks) (barred_count marks))
+unfoldable pub count_marks : Head → List ℕ → Result MarksCounted Reason
+count_marks h marks = checked (count_checks h marks) Err (Ok (counts (held_count marks) (barred_count marks)))

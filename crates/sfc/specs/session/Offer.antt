@@ -1,16 +1,16 @@
 -- The offer (document 01, "Marks, hand-out, prefix"; document 02, [4] and [8]): what is kept beside a session, and what a chunk
 -- that is offered makes of all of it. Past the first test the verdict is the session's own, and the rest follows from it.
 -- Assumes nothing: these are definitions.
-use Rattle.std.specs.Prelude.{ℕ, ◌*◌, Bool, true, false, cond, List, [], ◌∷◌, eqb, length}
+use Rattle.std.specs.Prelude.{ℕ, ◌*◌, Bool, true, false, cond, List, [], ◌∷◌, eqb, length, Option}
 use Rattle.little.specs.Runs.{zeros}
 use Rattle.sfc.specs.answer.Numbers.{Check, checked, number_of}
 use Rattle.sfc.specs.session.Lent.{rebuilding_wrong}
 use Rattle.sfc.specs.session.Session.{Session, session_of, blank, offer_checks, verdict_of, after_verdict, spot_of}
 use Rattle.sfc.specs.declared.format.header.Head.{Head}
-use Rattle.sfc.specs.declared.answer.places.Spot.{Spot}
 use Rattle.sfc.specs.declared.session.tallies.Tallies.{Tallies}
 use Rattle.sfc.specs.declared.session.offer.Verdict.{Verdict}
 use Rattle.sfc.specs.declared.session.offer.Verdict.TheVariants.{Fresh, Repeat, Refused}
+use Rattle.sfc.specs.declared.answer.places.BytePlace.{BytePlace}
 
 -- a session, the scratch into which its missing blocks are rebuilt, and how many word columns of them are finished
 pub record Logged : Type 0 where
@@ -65,12 +65,12 @@ logged_all h y (c ∷ cs) = logged_all h (logged_after h y c) cs
 pub record Offered : Type 0 where
   pub kept : Logged
   pub verdict : Verdict
-  pub spot : Spot
+  pub spot : Option BytePlace
 
 abbrev pub logged_of : List ℕ → List ℕ → Tallies → List ℕ → ℕ → Logged
 logged_of store marks tallies scratch finished = logged (session_of store marks tallies) scratch finished
 
-abbrev pub offered_of : Logged → Verdict → Spot → Offered
+abbrev pub offered_of : Logged → Verdict → Option BytePlace → Offered
 offered_of kept verdict spot = record { kept = kept; verdict = verdict; spot = spot }
 
 unfoldable pub offered : Head → Logged → List ℕ → Offered

@@ -1,6 +1,6 @@
 -- The session: what a chunk that is offered is told, and what it makes of store, marks and tallies (document 01, "Marks, hand-out,
 -- prefix"; document 02, [4]). Assumes nothing: these are definitions.
-use Rattle.std.specs.Prelude.{ℕ, ◌+◌, ◌*◌, Bool, cond, not, ◌&&◌, List, [], ◌∷◌, ◌++◌, eqb, get_or, set}
+use Rattle.std.specs.Prelude.{ℕ, ◌+◌, ◌*◌, Bool, cond, not, ◌&&◌, List, [], ◌∷◌, ◌++◌, eqb, get_or, set, Option, None}
 use Rattle.little.specs.Parts.{block, put_block}
 use Rattle.little.specs.Runs.{zeros, same}
 use Rattle.sfc.specs.answer.Numbers.{Check, checked, number_of}
@@ -11,10 +11,9 @@ use Rattle.sfc.specs.answer.Places.{number, place}
 use Rattle.sfc.specs.session.Tallies.{no_tallies, tally_full, counted}
 use Rattle.sfc.specs.declared.format.header.Head.{Head}
 use Rattle.sfc.specs.declared.session.tallies.Tallies.{Tallies}
-use Rattle.sfc.specs.declared.answer.places.Spot.{Spot}
-use Rattle.sfc.specs.declared.answer.places.Spot.TheVariants.{Nowhere}
 use Rattle.sfc.specs.declared.session.offer.Verdict.{Verdict}
 use Rattle.sfc.specs.declared.session.offer.Verdict.TheVariants.{Fresh, Repeat, Refused}
+use Rattle.sfc.specs.declared.answer.places.BytePlace.{BytePlace}
 
 -- what a session keeps: the lent store and marks, and the tallies
 pub record Session : Type 0 where
@@ -83,7 +82,7 @@ unfoldable pub after : Head → Session → List ℕ → Session
 after h x c = after_verdict h x c (verdict_of h x c)
 
 -- where the chunk broke: what is fresh or a repeat broke nowhere
-unfoldable pub spot_of : Head → List ℕ → Verdict → Spot
-spot_of h c (Fresh i p) = Nowhere
-spot_of h c (Repeat i p) = Nowhere
+unfoldable pub spot_of : Head → List ℕ → Verdict → Option BytePlace
+spot_of h c (Fresh i p) = None
+spot_of h c (Repeat i p) = None
 spot_of h c (Refused r) = spot_for h c (number_of r)

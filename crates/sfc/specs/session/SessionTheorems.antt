@@ -1,5 +1,5 @@
 -- What is proved of the session: statements. h is any head, x any session, c any bytes.
-use Rattle.std.specs.Prelude.{ℕ, ◌+◌, ◌*◌, ◌≤◌, ◌<◌, ◌≡◌, ◌≢◌, Bool, true, false, cond, eqb, length}
+use Rattle.std.specs.Prelude.{ℕ, ◌+◌, ◌*◌, ◌≤◌, ◌<◌, ◌≡◌, ◌≢◌, Bool, true, false, cond, eqb, length, Err}
 use mathlib.Core.List.{List, [], ◌∷◌, ◌++◌, Permᴰ}
 use Rattle.little.specs.Runs.{zeros}
 use Rattle.sfc.specs.answer.Numbers.{verdict, number_of}
@@ -10,7 +10,6 @@ use Rattle.sfc.specs.session.Session.{Session, blank, mark, block_of, session_wr
 use Rattle.sfc.specs.session.History.{after_all, verdicts, payloads_for, end_of}
 use Rattle.sfc.specs.declared.format.header.Head.{Head}
 use Rattle.sfc.specs.declared.answer.reason.Reason.{Reason}
-use Rattle.sfc.specs.declared.answer.reason.Checked.TheVariants.{Refused as Wrong}
 use Rattle.sfc.specs.declared.session.offer.Verdict.{Verdict}
 use Rattle.sfc.specs.declared.session.offer.Verdict.TheVariants.{Fresh, Repeat, Refused}
 
@@ -57,7 +56,7 @@ pub record ManyOffers : Type 0 where
   pub order_free : (h : Head) (x : Session) (cs ds : List (List ℕ)) → Permᴰ cs ds → ShortOf43 x (length cs)
       → SameKept (after_all h x cs) (after_all h x ds)
   -- a chunk refused by 30 to 40, put in anywhere, changes only its own tally
-  pub foreign_removable : (h : Head) (x : Session) (cs ds : List (List ℕ)) (c : List ℕ) (r : Reason) → verdict (chunk_checks h c) ≡ Wrong r
+  pub foreign_removable : (h : Head) (x : Session) (cs ds : List (List ℕ)) (c : List ℕ) (r : Reason) → verdict (chunk_checks h c) ≡ Err r
       → session_wrong h x ≡ false → ShortOf43 x (length (cs ++ (c ∷ ds)))
       → SameKept (after_all h x (cs ++ ds)) (after_all h x (cs ++ (c ∷ ds)))
       × ((after_all h x (cs ++ (c ∷ ds))).tallies ≡ counted (after_all h x (cs ++ ds)).tallies (Refused r))

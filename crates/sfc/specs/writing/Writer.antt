@@ -1,6 +1,6 @@
 -- The file that the writer makes, byte for byte, and when it makes none (document 01, "The bytes", 60 and 61). Assumes
 -- nothing: these are definitions.
-use Rattle.std.specs.Prelude.{ℕ, ◌+◌, ◌*◌, ◌^◌, Bool, true, cond, not, ◌&&◌, ◌||◌, List, [], ◌∷◌, ◌++◌, map, ltb, leb, eqb, length}
+use Rattle.std.specs.Prelude.{ℕ, ◌+◌, ◌*◌, ◌^◌, Bool, true, cond, not, ◌&&◌, ◌||◌, List, [], ◌∷◌, ◌++◌, map, ltb, leb, eqb, length, Result, Ok, Err}
 use Rattle.little.specs.Parts.{put}
 use Rattle.little.specs.Fields.{bytes_of}
 use Rattle.blake3.specs.Tree.{hash}
@@ -15,8 +15,6 @@ use Rattle.sfc.specs.format.Chunk.{chunk_magic, end_marker, type_for}
 use Rattle.sfc.specs.declared.answer.reason.Reason.{Reason}
 use Rattle.sfc.specs.declared.format.header.Head.{Head}
 use Rattle.sfc.specs.declared.writing.writer.FileFacts.{FileFacts}
-use Rattle.sfc.specs.declared.answer.written.Written.{Written}
-use Rattle.sfc.specs.declared.answer.written.Written.TheVariants.{Bytes, Refused}
 
 -- what the caller gives; the extension fields as the bytes that they have in the file
 pub record Input : Type 0 where
@@ -170,9 +168,9 @@ abbrev pub writer_checks : Input → List ℕ → List Check
 writer_checks w out = (input_wrong w, 60) ∷ (ltb (length out) (length (file_of w)), 61) ∷ []
 
 -- the file stands at the output's front, and what lies after it stays
-unfoldable pub write_file : Input → List ℕ → Answered Written
+unfoldable pub write_file : Input → List ℕ → Answered (Result ℕ Reason)
 write_file w out = record {
-  answer = checked (writer_checks w out) Refused (Bytes (length (file_of w)));
+  answer = checked (writer_checks w out) Err (Ok (length (file_of w)));
   output = checked (writer_checks w out) (λ (r : Reason). out) (put out 0 (file_of w));
 }
 

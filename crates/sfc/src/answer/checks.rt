@@ -1,21 +1,12 @@
-// One check of an ordered list: a list of checks reads downwards, each line with what the lines above it came to.
-ghost use Rattle.std.specs.Prelude.{◌≡◌};
-ghost use Rattle.sfc.specs.answer.Numbers.{then_check};
+// One check of an ordered list: a list of checks reads downwards, a line for each, and `?` after it stops at the first that
+// refuses.
+ghost use Rattle.std.specs.Prelude.{◌≡◌, cond, Ok, Err};
 
-use crate::answer::reason::{Checked, Reason};
+use crate::answer::reason::Reason;
 
-// A refusal so far stays; where all passed, this test refuses with `why` if it holds.
-pub(crate) fn refuse_if(before: Checked, test: bool, why: Reason) -> Checked
-    ensures { result ≡ then_check before test why }
+// This test refuses with `why` if it holds.
+pub(crate) fn refuse_if(test: bool, why: Reason) -> Result<(), Reason>
+    ensures { result ≡ cond test (Err why) (Ok tt) }
 {
-    match before {
-        Checked::Refused(_) => before,
-        Checked::Good => {
-            if test {
-                Checked::Refused(why)
-            } else {
-                Checked::Good
-            }
-        }
-    }
+    if test { Err(why) } else { Ok(()) }
 }

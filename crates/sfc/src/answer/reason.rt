@@ -3,7 +3,7 @@
 ghost use Rattle.std.specs.Prelude.{◌≡◌};
 ghost use Rattle.sfc.specs.answer.Numbers.{number_of, reason_of};
 
-#[derive(Clone, Copy)]
+#[derive(Clone, Copy, PartialEq, Eq, Debug)]
 pub enum Reason {
     HeaderShort,
     HeaderMagic,
@@ -42,13 +42,6 @@ pub enum Reason {
     WriterOutput,
     Note,
     Lent,
-}
-
-// What a list of checks comes to.
-#[derive(Clone, Copy)]
-pub enum Checked {
-    Good,
-    Refused(Reason),
 }
 
 // The row of a reason. It promises that the table has that row, and not what `number_of` is: so each arm is proved by its own
@@ -98,8 +91,10 @@ fn listed_number(reason: Reason) -> u8
 }
 
 // The number of the table.
-pub fn number_of(reason: Reason) -> u8
-    ensures { result ≡ number_of reason }
-{
-    listed_number(reason)
+impl From<Reason> for u8 {
+    ghost from_gives = { λ reason result. result ≡ number_of reason };
+
+    fn from(reason: Reason) -> u8 {
+        listed_number(reason)
+    }
 }

@@ -1,40 +1,41 @@
-// The check of a chunk by itself, against the header and before the session; and how long the chunk at the front of some bytes is.
+// The check of a chunk by itself, against the header and before the session; and how long the chunk at the front of some bytes
+// is.
 ghost use Rattle.std.specs.Prelude.{◌≡◌, ◌+◌, ◌≤◌, length};
 ghost use Rattle.sfc.specs.answer.Numbers.{verdict};
 ghost use Rattle.sfc.specs.format.Chunk.{index_of, payload_length, type_for, length_checks, seal_checks, head_checks, chunk_checks, measure_chunk};
 ghost use Rattle.sfc.specs.format.Spot.{check_chunk};
 
 use crate::answer::checks::refuse_if;
-use crate::answer::places::{BlockNumber, BytePlace, Spot};
-use crate::answer::reason::{Checked, Reason};
+use crate::answer::places::{BlockNumber, BytePlace};
+use crate::answer::reason::Reason;
 use crate::format::header::Head;
 use crate::format::layout::*;
 use crate::format::spot::spot_for;
 use crate::format::text::stands_at;
-use crate::session::lent::is_shape_wrong;
 
 // Where the payload begins, as an answer says it.
 const PAYLOAD_AT: u32 = CHUNK_HEADER as u32;
 
-// The types of a chunk.
+// The types of a chunk: numbers of the file, which any bytes may stand for, and so no enum.
 const DATA: u32 = 1;
 
 const RECOVERY: u32 = 2;
 
-// A whole chunk: its index, and the place in it where the payload begins. A refused one: why, and where it broke.
-#[derive(Clone, Copy)]
-pub enum ChunkChecked {
-    Whole(BlockNumber, BytePlace),
-    Refused(Reason, Spot),
+// A whole chunk: its index, and the place in it where the payload begins.
+#[derive(Clone, Copy, PartialEq, Eq, Debug)]
+pub struct WholeChunk {
+    pub index: BlockNumber,
+    pub payload_at: BytePlace,
 }
 
-// How many bytes the chunk at the front takes up.
-#[derive(Clone, Copy)]
-pub enum ChunkMeasured {
-    Length(usize),
-    Refused(Reason),
+// A refused one: why, and where it broke, if its reason has a place.
+#[derive(Clone, Copy, PartialEq, Eq, Debug)]
+pub struct BrokenChunk {
+    pub reason: Reason,
+    pub spot: Option<BytePlace>,
 }
 
+// This field and the next by their names: one line each.
 pub(crate) fn index_of(c: &[u8]) -> u32
     ensures { result ≡ index_of c.now }
 {
@@ -54,93 +55,86 @@ pub(crate) fn type_for(n: u32, index: u32) -> u32
 }
 
 // 30, 31, 32, 30: what must hold before the rest can be looked at.
-fn check_length(s: u32, c: &[u8]) -> Checked
+fn check_length(s: u32, c: &[u8]) -> Result<(), Reason>
     ensures { result ≡ verdict (length_checks s c.now) }
 {
     let payload = payload_length(c);
-    let cut = c.len() < CHUNK_OUTER + payload as usize;
-    let long = (2 * (s as u64)) < (payload as u64);
-    let header = refuse_if(Checked::Good, c.len() < CHUNK_HEADER, Reason::ChunkShort);
-    let magic = refuse_if(header, !stands_at(c, 0, &CHUNK_MAGIC), Reason::ChunkMagic);
-    let length = refuse_if(magic, long, Reason::PayloadLong);
-    refuse_if(length, cut, Reason::ChunkShort)
+    refuse_if(c.len() < CHUNK_HEADER, Reason::ChunkShort)?;
+    refuse_if(!stands_at(c, 0, &CHUNK_MAGIC), Reason::ChunkMagic)?;
+    refuse_if((2 * (s as u64)) < (payload as u64), Reason::PayloadLong)?;
+    refuse_if(c.len() < CHUNK_OUTER + payload as usize, Reason::ChunkShort)
 }
 
 // How far the next chunk is to be looked for; 30, 31 and 32 say that none is to be found.
-pub fn measure_chunk(h: Head, b: &[u8]) -> ChunkMeasured
+pub fn measure_chunk(h: Head, b: &[u8]) -> Result<usize, Reason>
     ensures { result ≡ measure_chunk h b.now }
 {
-    if is_shape_wrong(h.size, h.n, h.m, h.s) {
-        return ChunkMeasured::Refused(Reason::Lent);
-    }
-    let checked = check_length(h.s, b);
-    match checked {
-        Checked::Refused(reason) => ChunkMeasured::Refused(reason),
-        Checked::Good => ChunkMeasured::Length(CHUNK_OUTER + payload_length(b) as usize),
-    }
+    refuse_if(h.is_shape_wrong(), Reason::Lent)?;
+    check_length(h.s, b)?;
+    Ok(CHUNK_OUTER + payload_length(b) as usize)
 }
 
 // 33 and 34.
-fn check_seal(c: &[u8]) -> Checked
+fn check_seal(c: &[u8]) -> Result<(), Reason>
     requires { 84 + payload_length c.now ≤ length c.now }
     ensures { result ≡ verdict (seal_checks c.now) }
 {
     let payload = payload_length(c) as usize;
     let end = CHUNK_HEADER + payload;
     let hash = blake3::hash(&c[..end]);
-    let sealed = refuse_if(Checked::Good, !stands_at(c, end, &hash), Reason::ChunkHash);
+    refuse_if(!stands_at(c, end, &hash), Reason::ChunkHash)?;
     let ended = stands_at(c, END_MARKER_AT + payload, &END_MARKER);
-    refuse_if(sealed, !ended, Reason::EndMarker)
+    refuse_if(!ended, Reason::EndMarker)
 }
 
 // 35 to 40.
-fn check_against_head(h: Head, c: &[u8]) -> Checked
+fn check_against_head(h: Head, c: &[u8]) -> Result<(), Reason>
     ensures { result ≡ verdict (head_checks h c.now) }
 {
     let uuid = h.uuid;
-    let other_file = !stands_at(c, CHUNK_UUID_AT, &uuid);
+    refuse_if(!stands_at(c, CHUNK_UUID_AT, &uuid), Reason::OtherFile)?;
     let index = index_of(c);
-    let outside = h.n as u64 + h.m as u64 <= index as u64;
-    let other_type = little::read32(c, CHUNK_TYPE_AT) != type_for(h.n, index);
+    refuse_if(h.n as u64 + h.m as u64 <= index as u64, Reason::IndexRange)?;
+    let kind = little::read32(c, CHUNK_TYPE_AT);
+    refuse_if(kind != type_for(h.n, index), Reason::TypeIndex)?;
     let zeros = [0u8; CHUNK_RESERVED];
-    let used = !stands_at(c, CHUNK_RESERVED_AT, &zeros);
+    refuse_if(!stands_at(c, CHUNK_RESERVED_AT, &zeros), Reason::Reserved)?;
     let compression = little::byte_at(c, CHUNK_COMPRESSION_AT) != h.compression;
     let erasure = little::byte_at(c, CHUNK_ERASURE_AT) != h.erasure;
-    let file = refuse_if(Checked::Good, other_file, Reason::OtherFile);
-    let range = refuse_if(file, outside, Reason::IndexRange);
-    let kind = refuse_if(range, other_type, Reason::TypeIndex);
-    let reserved = refuse_if(kind, used, Reason::Reserved);
-    let identifiers = refuse_if(reserved, compression | erasure, Reason::Identifiers);
-    refuse_if(identifiers, payload_length(c) != h.s, Reason::PayloadLength)
+    refuse_if(compression | erasure, Reason::Identifiers)?;
+    refuse_if(payload_length(c) != h.s, Reason::PayloadLength)
 }
 
 // The checks in order; a hash is computed only of a chunk that is all there.
-pub(crate) fn check_all(h: Head, c: &[u8]) -> Checked
+pub(crate) fn check_all(h: Head, c: &[u8]) -> Result<(), Reason>
     ensures { result ≡ verdict (chunk_checks h c.now) }
 {
-    let length = check_length(h.s, c);
-    match length {
-        Checked::Refused(_) => length,
-        Checked::Good => {
-            let seal = check_seal(c);
-            match seal {
-                Checked::Refused(_) => seal,
-                Checked::Good => check_against_head(h, c),
-            }
-        }
-    }
+    check_length(h.s, c)?;
+    check_seal(c)?;
+    check_against_head(h, c)
 }
 
-// What follows a whole chunk is not looked at. The head of a refused header has N = 0, and is refused by 71.
-pub fn check_chunk(h: Head, c: &[u8]) -> ChunkChecked
+// What follows a whole chunk is not looked at. A head of zeros has N = 0, and is refused by 71. It matches on what the checks
+// came to, and has no `map_err`: a place is found only for a reason that this very chunk was refused for, which a closure is not
+// told.
+pub fn check_chunk(h: Head, c: &[u8]) -> Result<WholeChunk, BrokenChunk>
     ensures { result ≡ check_chunk h c.now }
 {
-    if is_shape_wrong(h.size, h.n, h.m, h.s) {
-        return ChunkChecked::Refused(Reason::Lent, Spot::Nowhere);
+    if h.is_shape_wrong() {
+        return Err(BrokenChunk {
+            reason: Reason::Lent,
+            spot: None,
+        });
     }
     let verdict = check_all(h, c);
     match verdict {
-        Checked::Refused(reason) => ChunkChecked::Refused(reason, spot_for(h, c, reason)),
-        Checked::Good => { ChunkChecked::Whole(BlockNumber(index_of(c)), BytePlace(PAYLOAD_AT)) }
+        Err(reason) => Err(BrokenChunk {
+            reason,
+            spot: spot_for(h, c, reason),
+        }),
+        Ok(()) => Ok(WholeChunk {
+            index: BlockNumber(index_of(c)),
+            payload_at: BytePlace(PAYLOAD_AT),
+        }),
     }
 }

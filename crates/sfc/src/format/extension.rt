@@ -1,7 +1,8 @@
 // The extension fields of a header region.
 ghost use Rattle.std.specs.Prelude.{◌≡◌, ◌+◌, ◌^◌, ◌<◌, ◌&&◌};
 ghost use Rattle.little.specs.Runs.{any};
-ghost use Rattle.sfc.specs.format.Extension.{next_field, fields_of, rule_broken, is_known, tag_within, has_tag, extension_wrong};
+ghost use Rattle.sfc.specs.inner.Fields.{GivesFront};
+ghost use Rattle.sfc.specs.format.Extension.{fields_of, rule_broken, is_known, tag_within, has_tag, extension_wrong};
 ghost use Rattle.sfc.specs.writing.Writer.{tags_fall};
 
 // Where in a field the length of its value stands, after the tag.
@@ -29,18 +30,53 @@ const LAST_TEXT: u16 = 0x0104;
 
 const MOST_TEXT: u64 = 4096;
 
-// Where the field after the one at the front begins; 0 where no whole field is at the front.
-pub(crate) fn next_field(e: &[u8]) -> usize
-    ensures { result ≡ next_field e.now }
+// A field: its tag, and its value.
+#[derive(Clone, Copy)]
+pub(crate) struct Field<'a> {
+    pub(crate) tag: u16,
+    pub(crate) value: &'a [u8],
+}
+
+// The field at the front, and what lies after it; nothing where no whole field is at the front.
+fn next_field(e: &[u8]) -> Option<(Field, &[u8])>
+    ensures { GivesFront e.now result }
 {
-    if e.len() < FIELD_FRONT {
-        return 0;
+    let (front, behind) = e.split_at_checked(FIELD_FRONT)?;
+    let length = little::read32(front, VALUE_LENGTH_AT) as usize;
+    let (value, after) = behind.split_at_checked(length)?;
+    let tag = little::read16(front, 0);
+    Some((Field { tag, value }, after))
+}
+
+// The whole fields from the front of some bytes on; `rest` is what lies after those that came.
+#[derive(Drop)]
+pub(crate) struct Fields<'a> {
+    rest: &'a [u8],
+}
+
+impl<'a> Fields<'a> {
+    pub(crate) fn of(e: &'a [u8]) -> Fields<'a>
+        ensures { result.rest.now ≡ e.now }
+    {
+        Fields { rest: e }
     }
-    let length = little::read32(e, VALUE_LENGTH_AT) as usize;
-    if e.len() - FIELD_FRONT < length {
-        return 0;
+}
+
+impl<'a> Iterator for Fields<'a> {
+    ghost use Rattle.std.specs.Iterator.{item_count};
+    ghost use Rattle.sfc.specs.inner.Fields.{fields_left, GivesField};
+
+    type Item = Field<'a>;
+
+    ghost next_gives = { GivesField };
+
+    ghost remaining = { item_count fields_left };
+
+    fn next(&mut self) -> Option<Field<'a>> {
+        let (field, after) = next_field(self.rest)?;
+        self.rest = after;
+        Some(field)
     }
-    FIELD_FRONT + length
 }
 
 // Whether a field with this tag and length breaks a rule.
@@ -65,20 +101,7 @@ fn is_known(tag: u16) -> bool
 pub(crate) fn has_tag_within(e: &[u8], low: u16, high: u16) -> bool
     ensures { result ≡ any (tag_within low high) (fields_of e.now) }
 {
-    let mut at = 0;
-    while at < e.len() {
-        let rest = &e[at..];
-        let next = next_field(rest);
-        if next == 0 {
-            return false;
-        }
-        let tag = little::read16(rest, 0);
-        if (low <= tag) & (tag <= high) {
-            return true;
-        }
-        at += next;
-    }
-    false
+    Fields::of(e).any(|field| (low <= field.tag) & (field.tag <= high))
 }
 
 // Whether a known tag comes again among the fields after it. Foreign ones are not looked for, so that seven walks are the most
@@ -97,41 +120,27 @@ pub(crate) fn are_fields_wrong(blocks: u64, flags: u16, e: &[u8]) -> bool
     requires { blocks < 2 ^ 34 }
     ensures { result ≡ extension_wrong blocks flags e.now }
 {
-    let mut at = 0;
-    while at < e.len() {
-        let rest = &e[at..];
-        let next = next_field(rest);
-        if next == 0 {
+    let mut fields = Fields::of(e);
+    // A `for` would take `fields`, whose rest is asked for in each turn and at the end.
+    while let Some(field) = fields.next() {
+        let length = field.value.len() as u64;
+        if breaks_rule(blocks, flags, field.tag, length) | comes_again(field.tag, fields.rest) {
             return true;
         }
-        let tag = little::read16(rest, 0);
-        let length = (next - FIELD_FRONT) as u64;
-        if breaks_rule(blocks, flags, tag, length) | comes_again(tag, &rest[next..]) {
-            return true;
-        }
-        at += next;
     }
-    false
+    !fields.rest.is_empty()
 }
 
 // Whether the tags fall somewhere, which the writer does not write; equal neighbours are no fall.
 pub(crate) fn do_tags_fall(e: &[u8]) -> bool
     ensures { result ≡ tags_fall e.now }
 {
-    let mut at = 0;
-    let mut least: u16 = 0;
-    while at < e.len() {
-        let rest = &e[at..];
-        let next = next_field(rest);
-        if next == 0 {
-            return false;
-        }
-        let tag = little::read16(rest, 0);
-        if tag < least {
+    let mut least = 0;
+    for field in Fields::of(e) {
+        if field.tag < least {
             return true;
         }
-        least = tag;
-        at += next;
+        least = field.tag;
     }
     false
 }

@@ -2,6 +2,7 @@
 ghost use Rattle.std.specs.Prelude.{◌≡◌};
 ghost use Rattle.sfc.specs.format.Limits.{wanted_blocks, unlawful, above_house, length_wrong};
 ghost use Rattle.sfc.specs.format.Header.{mispaired, flags_barred};
+ghost use Rattle.sfc.specs.session.Lent.{shape_wrong};
 
 use crate::format::layout::*;
 
@@ -25,29 +26,49 @@ pub(crate) fn wanted_blocks(size: u64, s: u32) -> u64
     (size - 1) / (s as u64) + 1
 }
 
-// 14. A block size of 0 is unlawful whatever the rest is, and divides nothing.
-pub(crate) fn is_unlawful(size: u64, n: u32, m: u32, s: u32) -> bool
-    ensures { result ≡ unlawful size n m s }
-{
-    if s == 0 {
-        return true;
-    }
-    (s < 2)
-        | (DRAFT_BLOCK < s)
-        | (s % 2 != 0)
-        | (n < 1)
-        | (DRAFT_BLOCKS < n)
-        | (DRAFT_BLOCKS < m)
-        | (DRAFT_BLOCKS_IN_ALL < n as u64 + m as u64)
-        | (DRAFT_SIZE < size)
-        | (n as u64 != wanted_blocks(size, s))
+// The content's size, N, M and S, as a header has them or as a caller of the writer would have them.
+#[derive(Clone, Copy)]
+pub(crate) struct Shape {
+    pub(crate) size: u64,
+    pub(crate) n: u32,
+    pub(crate) m: u32,
+    pub(crate) s: u32,
 }
 
-// 15
-pub(crate) fn is_above_house(n: u32, m: u32, s: u32) -> bool
-    ensures { result ≡ above_house n m s }
-{
-    (MOST_DATA < n) | (MOST_RECOVERY < m) | (MOST_BLOCK < s)
+impl Shape {
+    // 14. A block size of 0 is unlawful whatever the rest is, and divides nothing.
+    pub(crate) fn is_unlawful(self) -> bool
+        ensures { result ≡ unlawful self.size self.n self.m self.s }
+    {
+        let Shape { size, n, m, s } = self;
+        if s == 0 {
+            return true;
+        }
+        (s < 2)
+            | (DRAFT_BLOCK < s)
+            | (s % 2 != 0)
+            | (n < 1)
+            | (DRAFT_BLOCKS < n)
+            | (DRAFT_BLOCKS < m)
+            | (DRAFT_BLOCKS_IN_ALL < n as u64 + m as u64)
+            | (DRAFT_SIZE < size)
+            | (n as u64 != wanted_blocks(size, s))
+    }
+
+    // 15
+    pub(crate) fn is_above_house(self) -> bool
+        ensures { result ≡ above_house self.n self.m self.s }
+    {
+        let Shape { n, m, s, .. } = self;
+        (MOST_DATA < n) | (MOST_RECOVERY < m) | (MOST_BLOCK < s)
+    }
+
+    // Either.
+    pub(crate) fn is_wrong(self) -> bool
+        ensures { result ≡ shape_wrong self.size self.n self.m self.s }
+    {
+        self.is_unlawful() | self.is_above_house()
+    }
 }
 
 // 13
@@ -71,6 +92,6 @@ pub(crate) fn are_flags_barred(flags: u16) -> bool
     (flags / 2 % 2 == 1)
         | (flags / 4 % 2 == 1)
         | (flags / 8 % 2 == 1)
-        | (flags / 1 % 2 == 1)
+        | (flags % 2 == 1)
         | (flags / 32 % 2 == 1)
 }

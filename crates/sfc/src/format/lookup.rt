@@ -4,52 +4,45 @@ ghost use Rattle.sfc.specs.format.Extension.{fields_of};
 ghost use Rattle.sfc.specs.format.Lookup.{found_among, find_field};
 
 use crate::answer::places::BytePlace;
-use crate::answer::reason::{Checked, Reason};
-use crate::format::extension::{FIELD_FRONT, next_field};
+use crate::answer::reason::Reason;
+use crate::format::extension::{FIELD_FRONT, Fields};
 use crate::format::header::read_header;
 use crate::format::layout::{AFTER_LENGTH, HEADER_BEFORE_LISTS, REGION_AT};
 
 // The place in the input where a field's value begins, and its length.
-#[derive(Clone, Copy)]
-pub enum FieldFound {
-    At(BytePlace, u32),
-    Nothing,
-    Refused(Reason),
+#[derive(Clone, Copy, PartialEq, Eq, Debug)]
+pub struct FieldFound {
+    pub at: BytePlace,
+    pub length: u32,
 }
 
 // Among the fields e, of which the first begins at place `start` of the input.
-fn find_in(e: &[u8], tag: u16, start: u32) -> FieldFound
+fn find_in(e: &[u8], tag: u16, start: u32) -> Option<FieldFound>
     requires { start + length e.now < 2 ^ 31 }
     ensures { result ≡ found_among tag start (fields_of e.now) }
 {
-    let mut at = 0;
-    while at < e.len() {
-        let rest = &e[at..];
-        let next = next_field(rest);
-        if next == 0 {
-            return FieldFound::Nothing;
+    // The place is the sum of what was passed, so this is no `find`.
+    let mut at = start;
+    for field in Fields::of(e) {
+        let value = at + FIELD_FRONT as u32;
+        let length = field.value.len() as u32;
+        if field.tag == tag {
+            return Some(FieldFound {
+                at: BytePlace(value),
+                length,
+            });
         }
-        if little::read16(rest, 0) == tag {
-            let value = start + (at + FIELD_FRONT) as u32;
-            return FieldFound::At(BytePlace(value), (next - FIELD_FRONT) as u32);
-        }
-        at += next;
+        at = value + length;
     }
-    FieldFound::Nothing
+    None
 }
 
-// The first field with this tag of an accepted header; of a refused one its number, and nothing of its fields.
-pub fn find_field(input: &[u8], tag: u16) -> FieldFound
+// The first field with this tag of an accepted header, if it has one; of a refused header its number, and nothing of its fields.
+pub fn find_field(input: &[u8], tag: u16) -> Result<Option<FieldFound>, Reason>
     ensures { result ≡ find_field input.now tag }
 {
-    let header = read_header(input);
-    let verdict = header.verdict;
-    match verdict {
-        Checked::Refused(reason) => FieldFound::Refused(reason),
-        Checked::Good => {
-            let from = REGION_AT + HEADER_BEFORE_LISTS + 4 * header.head.priorities as usize;
-            let end = AFTER_LENGTH + header.head.header_length as usize;
-            find_in(&input[from..end], tag, from as u32)
-        }
-    }
+    let head = read_header(input)?;
+    let from = REGION_AT + HEADER_BEFORE_LISTS + 4 * head.priorities as usize;
+    let end = AFTER_LENGTH + head.header_length as usize;
+    Ok(find_in(&input[from..end], tag, from as u32))
 }

@@ -1,76 +1,89 @@
 // The priority list, in a header region and as the writer is given it.
-ghost use Rattle.std.specs.Prelude.{◌≡◌, ◌^◌, ◌<◌, eqb};
+ghost use Rattle.std.specs.Prelude.{◌≡◌, ℕ, ◌+◌, ◌*◌, ◌/◌, ◌^◌, ◌<◌, List, length, drop, eqb, slice_index};
 ghost use Rattle.little.specs.Runs.{any};
 ghost use Rattle.sfc.specs.format.Header.{indices, distinct_below, priority_wrong};
 
 use crate::format::layout::HEADER_BEFORE_LISTS;
 
-// Whether x is one of the `count` indices from `at` on.
-fn occurs(r: &[u8], at: usize, count: usize, x: u32) -> bool
-    requires { (at < 2 ^ 32) × (count < 2 ^ 16) }
-    ensures { result ≡ any (eqb x) (indices r.now at count) }
-{
-    let mut found = false;
-    let mut i = count;
-    while 0 < i {
-        i -= 1;
-        found = (x == little::read32(r, at + i * 4)) | found;
+// How many bytes an index of the list has.
+const INDEX_BYTES: usize = 4;
+
+// Numbers one after the other.
+pub(crate) trait Numbers {
+    ghost numbers: { Self → List ℕ };
+
+    fn count(&self) -> usize
+        ensures { result ≡ length (numbers self.now) };
+
+    fn number(&self, i: usize) -> u32
+        requires { i < length (numbers self.now) }
+        ensures { result ≡ slice_index (numbers self.now) i };
+}
+
+// A list of them,
+impl<'a> Numbers for &'a [u32] {
+    ghost numbers = { λ list. list.now };
+
+    fn count(&self) -> usize {
+        self.len()
     }
-    found
+
+    fn number(&self, i: usize) -> u32 {
+        self[i]
+    }
+}
+
+// or their bytes, as they stand in a region.
+#[derive(Clone, Copy)]
+struct Stored<'a> {
+    bytes: &'a [u8],
+}
+
+impl<'a> Numbers for Stored<'a> {
+    ghost numbers = { λ s. indices s.bytes.now 0 (length s.bytes.now / 4) };
+
+    fn count(&self) -> usize {
+        self.bytes.len() / INDEX_BYTES
+    }
+
+    fn number(&self, i: usize) -> u32 {
+        little::read32(self.bytes, INDEX_BYTES * i)
+    }
+}
+
+// Whether x is one of the numbers from place `from` on.
+fn is_among<L: Numbers>(x: u32, list: &L, from: usize) -> bool
+    ensures { result ≡ any (eqb x) (drop from (L.numbers list.now)) }
+{
+    for i in from..list.count() {
+        if list.number(i) == x {
+            return true;
+        }
+    }
+    false
 }
 
 // Whether each of them is below n, and none stands twice.
-fn are_distinct_below(r: &[u8], at: usize, count: usize, n: u32) -> bool
-    requires { (at < 2 ^ 31) × (count < 2 ^ 16) }
-    ensures { result ≡ distinct_below n (indices r.now at count) }
+pub(crate) fn is_distinct_below<L: Numbers + Copy>(list: L, n: u32) -> bool
+    ensures { result ≡ distinct_below n (L.numbers list) }
 {
-    let mut good = true;
-    let mut i = count;
-    while 0 < i {
-        let after = at + i * 4;
-        let left = count - i;
-        i -= 1;
-        let x = little::read32(r, at + i * 4);
-        good = (x < n) & !occurs(r, after, left, x) & good;
+    for i in 0..list.count() {
+        let x = list.number(i);
+        if (n <= x) | is_among(x, &list, i + 1) {
+            return false;
+        }
     }
-    good
+    true
 }
 
 // 20. The pairs are compared only where the list is no longer than n, so that n bounds the work.
 pub(crate) fn is_priority_wrong(r: &[u8], n: u32, p: u16) -> bool
     ensures { result ≡ priority_wrong n p r.now }
 {
-    if n < p as u32 {
+    let end = HEADER_BEFORE_LISTS + INDEX_BYTES * p as usize;
+    if (n < p as u32) | (r.len() < end) {
         return true;
     }
-    let many = p as usize;
-    (r.len() < HEADER_BEFORE_LISTS + 4 * many)
-        | !are_distinct_below(r, HEADER_BEFORE_LISTS, many, n)
-}
-
-fn is_among(x: u32, list: &[u32]) -> bool
-    ensures { result ≡ any (eqb x) list.now }
-{
-    let mut found = false;
-    let mut i = list.len();
-    while 0 < i {
-        i -= 1;
-        found = (x == list[i]) | found;
-    }
-    found
-}
-
-// Whether each number of a list is below n, and none stands twice.
-pub(crate) fn is_distinct_below(list: &[u32], n: u32) -> bool
-    ensures { result ≡ distinct_below n list.now }
-{
-    let mut good = true;
-    let mut i = list.len();
-    while 0 < i {
-        let after = i;
-        i -= 1;
-        let x = list[i];
-        good = (x < n) & !is_among(x, &list[after..]) & good;
-    }
-    good
+    let bytes = &r[HEADER_BEFORE_LISTS..end];
+    !is_distinct_below(Stored { bytes }, n)
 }

@@ -10,30 +10,16 @@ pub(crate) fn stands_at(s: &[u8], at: usize, wanted: &[u8]) -> bool
     requires { at + length wanted.now < 2 ^ 64 }
     ensures { result ≡ stands_at s.now at wanted.now }
 {
-    let mut same = true;
-    let mut i = wanted.len();
-    while 0 < i {
-        i -= 1;
-        same = (little::byte_at(s, at + i) == wanted[i]) & same;
-    }
-    same
+    (at..at + wanted.len())
+        .zip(wanted)
+        .all(|(place, byte)| little::byte_at(s, place) == *byte)
 }
 
 // How many bytes stand before the first zero.
 pub(crate) fn name_length(field: &[u8]) -> usize
     ensures { result ≡ length (before_zero field.now) }
 {
-    let mut count = 0;
-    let mut i = field.len();
-    while 0 < i {
-        i -= 1;
-        if field[i] == 0 {
-            count = 0;
-        } else {
-            count += 1;
-        }
-    }
-    count
+    field.iter().take_while(|byte| **byte != 0).count()
 }
 
 // Whether a name would not be read back as it is.

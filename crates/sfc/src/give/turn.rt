@@ -1,25 +1,19 @@
-// A turn of the rebuild: some word columns of the missing data blocks go into scratch, so that a console is never kept waiting for
-// all of them.
-ghost use Rattle.std.specs.Prelude.{◌≡◌, ◌/◌, ◌≤◌, length};
+// A turn of the rebuild: some word columns of the missing data blocks go into scratch, so that a console is never kept waiting
+// for all of them.
+ghost use Rattle.std.specs.Prelude.{◌≡◌, ◌/◌, ◌≤◌, length, Err};
 ghost use Rattle.sfc.specs.give.Turns.{columns_left, turning_of, turn};
 
 use crate::answer::places::ColumnCount;
 use crate::answer::reason::Reason;
 use crate::format::header::Head;
-use crate::session::lent::{ELEMENTS, is_columns_wrong};
-use cauchy::Answer;
+use crate::session::lent::ELEMENTS;
+use cauchy::{Columns, Refusal, Shape};
 
-// How many columns were rebuilt: the budget, or all that were left where they are fewer.
-#[derive(Clone, Copy)]
-pub enum Turned {
-    Did(ColumnCount),
-    Refused(Reason),
-}
-
-// The answer, and how many columns are finished by now.
+// How many columns were rebuilt, the budget or all that were left where they are fewer; and how many are finished by now, which a
+// refusal tells too: so a turn answers with both, and stops at a check by `refused` and not by `?`.
 #[derive(Clone, Copy)]
 pub struct TurnAnswer {
-    pub turned: Turned,
+    pub turned: Result<ColumnCount, Reason>,
     pub finished: ColumnCount,
 }
 
@@ -36,15 +30,16 @@ pub(crate) fn columns_left(n: u32, s: u32, marks: &[u8], finished: u32) -> u32
 }
 
 fn refused(reason: Reason, finished: ColumnCount) -> TurnAnswer
-    ensures { result ≡ record { turned = Turned.Refused reason; finished = finished } }
+    ensures { result ≡ record { turned = Err reason; finished = finished } }
 {
     TurnAnswer {
-        turned: Turned::Refused(reason),
+        turned: Err(reason),
         finished,
     }
 }
 
 // A refusal changes nothing, `finished` included. Past it the room for numbers ends as zeros, also where no column was done.
+// Memory is lent one by one: session/lent.rt says why.
 pub fn rebuild_turn(
     h: Head,
     store: &[u8],
@@ -57,7 +52,7 @@ pub fn rebuild_turn(
     ensures { turning_of result.turned result.finished.0 scratch.new numbers.new ≡ turn h store.now marks.now scratch.old numbers.old finished.0 budget }
 {
     let first = finished.0;
-    if is_columns_wrong(h.size, h.n, h.m, h.s, store, marks, scratch, first) {
+    if h.is_columns_wrong(store, marks, scratch, first) {
         return refused(Reason::Lent, finished);
     }
     if numbers.len() != ELEMENTS {
@@ -65,20 +60,22 @@ pub fn rebuild_turn(
     }
     let left = columns_left(h.n, h.s, marks, first);
     let count = little::least(budget as usize, left as usize);
-    let n = h.n as usize;
-    let m = h.m as usize;
-    let s = h.s as usize;
+    let shape = Shape {
+        n: h.n as usize,
+        m: h.m as usize,
+        s: h.s as usize,
+    };
     let from = first as usize;
-    let rebuilt = cauchy::rebuild(n, m, s, store, marks, scratch, numbers, from, count);
-    match rebuilt {
-        Answer::Done => {
+    let columns = Columns { first: from, count };
+    match cauchy::rebuild(shape, store, marks, scratch, numbers, columns) {
+        Ok(()) => {
             let done = count as u32;
             TurnAnswer {
-                turned: Turned::Did(ColumnCount(done)),
+                turned: Ok(ColumnCount(done)),
                 finished: ColumnCount(first + done),
             }
         }
-        Answer::TooFew => refused(Reason::Few, finished),
-        Answer::BadShape => refused(Reason::Lent, finished),
+        Err(Refusal::TooFew) => refused(Reason::Few, finished),
+        Err(Refusal::BadShape) => refused(Reason::Lent, finished),
     }
 }

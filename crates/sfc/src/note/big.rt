@@ -1,4 +1,5 @@
-// Big-endian fields: read from any bytes, and stored.
+// Big-endian fields: read from any bytes, and stored. By hand over the width, so that one law serves 2 and 4 bytes; std's calls
+// take a whole array, and a byte past the end has no place in one.
 ghost use Rattle.std.specs.Prelude.{◌≡◌, ◌+◌, ◌<◌, ◌≤◌, ◌^◌, length};
 ghost use Rattle.little.specs.Parts.{put};
 ghost use Rattle.sfc.specs.note.Note.{be, big_bytes};
@@ -9,10 +10,8 @@ pub(crate) fn read_big(b: &[u8], at: usize, width: usize) -> u32
     ensures { result ≡ be b.now at width }
 {
     let mut v: u32 = 0;
-    let mut i = 0;
-    while i < width {
+    for i in 0..width {
         v = v * 256 + little::byte_at(b, at + i) as u32;
-        i += 1;
     }
     v
 }
@@ -22,9 +21,7 @@ fn fill_big(d: &mut [u8], v: u32)
     ensures { d.new ≡ big_bytes (length d.old) v }
 {
     let mut rest = v;
-    let mut i = d.len();
-    while 0 < i {
-        i -= 1;
+    for i in (0..d.len()).rev() {
         d[i] = (rest % 256) as u8;
         rest = rest / 256;
     }

@@ -1,20 +1,13 @@
 // Which data blocks are unknown: the marks that do not say held, listed where too few do.
 ghost use Rattle.std.specs.Prelude.{◌≡◌, ◌<◌, ◌≤◌, ◌^◌, length, take};
 ghost use Rattle.little.specs.Parts.{put};
-ghost use Rattle.sfc.specs.answer.Numbers.{Answered};
+ghost use Rattle.sfc.specs.answer.Numbers.{answered};
 ghost use Rattle.sfc.specs.note.Missing.{unheld_from, missing, list_missing};
 
+use crate::answer::checks::refuse_if;
 use crate::answer::reason::Reason;
 use crate::format::header::Head;
-use crate::session::lent::is_marks_wrong;
 use crate::session::marks::HELD;
-
-// How many indices were listed.
-#[derive(Clone, Copy)]
-pub enum Listed {
-    Count(usize),
-    Refused(Reason),
-}
 
 // How many marks, from the first on, the missing list is made of: those of all data blocks, or none once N are held.
 pub(crate) fn open_marks(n: u32, marks: &[u8]) -> usize
@@ -28,34 +21,29 @@ pub(crate) fn open_marks(n: u32, marks: &[u8]) -> usize
     }
 }
 
-// The indices of the marks that do not say held, from the last to the first, each before those listed already.
+// The indices of the marks that do not say held, from the last to the first, each before those listed already. What is asked of
+// marks and count here and in ranges.rt is asked of lent memory, and so no part of a value.
 fn put_unheld(marks: &[u8], count: usize, out: &mut [u32])
     requires { (length marks.now < 2 ^ 32) × (count ≡ length (unheld_from 0 marks.now)) × (count ≤ length out.old) }
     ensures { out.new ≡ put out.old 0 (unheld_from 0 marks.now) }
 {
     let mut k = count;
-    let mut i = marks.len();
-    while 0 < i {
-        i -= 1;
-        if marks[i] != HELD {
+    for (i, mark) in marks.iter().enumerate().rev() {
+        if *mark != HELD {
             k -= 1;
             out[k] = i as u32;
         }
     }
 }
 
-// The unknown data indices, rising, each once.
-pub fn list_missing(h: Head, marks: &[u8], out: &mut [u32]) -> Listed
-    ensures { ◌≡◌ {A = Answered Listed} (record { answer = result; output = out.new }) (list_missing h marks.now out.old) }
+// The unknown data indices, rising, each once; the answer is how many. A refusal leaves the output as it was.
+pub fn list_missing(h: Head, marks: &[u8], out: &mut [u32]) -> Result<usize, Reason>
+    ensures { answered result out.new ≡ list_missing h marks.now out.old }
 {
-    if is_marks_wrong(h.size, h.n, h.m, h.s, marks) {
-        return Listed::Refused(Reason::Lent);
-    }
+    refuse_if(h.is_marks_wrong(marks), Reason::Lent)?;
     let among = open_marks(h.n, marks);
     let count = among - cauchy::held_count(&marks[..among]);
-    if out.len() < count {
-        return Listed::Refused(Reason::OutputShort);
-    }
+    refuse_if(out.len() < count, Reason::OutputShort)?;
     put_unheld(&marks[..among], count, out);
-    Listed::Count(count)
+    Ok(count)
 }

@@ -1,12 +1,12 @@
 // The resend note: written from the marks of a session, and read from any bytes.
 ghost use Rattle.std.specs.Prelude.{◌≡◌, ◌∷◌, ◌++◌, ◌+◌, ◌*◌, ◌<◌, ◌≤◌, ◌^◌, length, drop};
 ghost use Rattle.little.specs.Parts.{put};
-ghost use Rattle.sfc.specs.answer.Numbers.{Answered};
+ghost use Rattle.sfc.specs.answer.Numbers.{answered};
 ghost use Rattle.sfc.specs.note.Ranges.{maximal, bounds};
-ghost use Rattle.sfc.specs.note.Note.{big_bytes, write_note, uuid_in, pairs_from, malformed, refused_note, read_note};
+ghost use Rattle.sfc.specs.note.Note.{big_bytes, write_note, uuid_in, pairs_from, malformed, read_note};
 
-use crate::answer::reason::{Checked, Reason};
-use crate::answer::written::Written;
+use crate::answer::checks::refuse_if;
+use crate::answer::reason::Reason;
 use crate::format::header::Head;
 use crate::note::big::{put_big, read_big};
 use crate::note::layout::{
@@ -15,12 +15,10 @@ use crate::note::layout::{
 };
 use crate::note::missing::open_marks;
 use crate::note::ranges::{count_ranges, put_range_bytes};
-use crate::session::lent::is_marks_wrong;
 
-// With a refusal the UUID is all zeros and there are no ranges.
+// Whose file a note asks for, and how many ranges.
 #[derive(Clone, Copy)]
 pub struct NoteRead {
-    pub verdict: Checked,
     pub uuid: [u8; 16],
     pub ranges: u32,
 }
@@ -31,7 +29,7 @@ fn put_start(uuid: [u8; 16], count: u32, out: &mut [u8])
     ensures { out.new ≡ big_bytes 4 (19 + 8 * count) ++ (1 ∷ (uuid ++ (big_bytes 2 count ++ drop 23 out.old))) }
 {
     put_big(out, COUNT_AT, COUNT_BYTES, count);
-    little::copy(&uuid, &mut out[UUID_AT..COUNT_AT]);
+    out[UUID_AT..COUNT_AT].copy_from_slice(&uuid);
     out[VERSION_AT] = VERSION;
     put_big(
         out,
@@ -41,23 +39,20 @@ fn put_start(uuid: [u8; 16], count: u32, out: &mut [u8])
     );
 }
 
-// The note of a session: its UUID and the ranges of its unknown data indices.
-pub fn write_note(h: Head, marks: &[u8], out: &mut [u8]) -> Written
-    ensures { ◌≡◌ {A = Answered Written} (record { answer = result; output = out.new }) (write_note h marks.now out.old) }
+// The note of a session: its UUID and the ranges of its unknown data indices. The answer is how many bytes it has; a refusal
+// leaves the output as it was.
+pub fn write_note(h: Head, marks: &[u8], out: &mut [u8]) -> Result<usize, Reason>
+    ensures { answered result out.new ≡ write_note h marks.now out.old }
 {
-    if is_marks_wrong(h.size, h.n, h.m, h.s, marks) {
-        return Written::Refused(Reason::Lent);
-    }
+    refuse_if(h.is_marks_wrong(marks), Reason::Lent)?;
     let among = open_marks(h.n, marks);
     let count = count_ranges(&marks[..among]);
     let length = PAIRS_AT + PAIR_BYTES * count;
-    if out.len() < length {
-        return Written::Refused(Reason::OutputShort);
-    }
+    refuse_if(out.len() < length, Reason::OutputShort)?;
     put_range_bytes(&marks[..among], count, out);
     let uuid = h.uuid;
     put_start(uuid, count as u32, out);
-    Written::Bytes(length)
+    Ok(length)
 }
 
 // Whether the pairs rise with an index between neighbours; in 64 bits `last + 2` cannot wrap.
@@ -66,14 +61,12 @@ fn is_maximal(note: &[u8], count: u32) -> bool
 {
     let mut apart = true;
     let mut least: u64 = 0;
-    let mut k: u32 = 0;
-    while k < count {
+    for k in 0..count {
         let at = PAIRS_AT + PAIR_BYTES * k as usize;
         let first = read_big(note, at, INDEX_BYTES) as u64;
         let last = read_big(note, at + INDEX_BYTES, INDEX_BYTES) as u64;
         apart = apart & ((least <= first) & (first <= last));
         least = last + 2;
-        k += 1;
     }
     apart
 }
@@ -97,22 +90,9 @@ fn put_bounds(note: &[u8], count: u32, out: &mut [u32])
     requires { 2 * count ≤ length out.old }
     ensures { out.new ≡ put out.old 0 (bounds (pairs_from note.now 23 count)) }
 {
-    let mut k = count as usize;
-    while 0 < k {
-        k -= 1;
+    for k in (0..count as usize).rev() {
         out[2 * k + 1] = read_big(note, LASTS_AT + PAIR_BYTES * k, INDEX_BYTES);
         out[2 * k] = read_big(note, PAIRS_AT + PAIR_BYTES * k, INDEX_BYTES);
-    }
-}
-
-fn refused_note(reason: Reason) -> NoteRead
-    ensures { result ≡ refused_note reason }
-{
-    let uuid = [0u8; 16];
-    NoteRead {
-        verdict: Checked::Refused(reason),
-        uuid,
-        ranges: 0,
     }
 }
 
@@ -121,26 +101,20 @@ fn uuid_of(note: &[u8]) -> [u8; 16]
     ensures { result ≡ uuid_in note.now }
 {
     let mut uuid = [0u8; 16];
-    little::copy(&note[UUID_AT..COUNT_AT], &mut uuid);
+    uuid.copy_from_slice(&note[UUID_AT..COUNT_AT]);
     uuid
 }
 
 // Any bytes may come; only those that some note has are taken. The ranges go out as first and last, one pair after the other.
-pub fn read_note(note: &[u8], out: &mut [u32]) -> NoteRead
-    ensures { ◌≡◌ {A = Answered NoteRead} (record { answer = result; output = out.new }) (read_note note.now out.old) }
+pub fn read_note(note: &[u8], out: &mut [u32]) -> Result<NoteRead, Reason>
+    ensures { answered result out.new ≡ read_note note.now out.old }
 {
-    if is_malformed(note) {
-        return refused_note(Reason::Note);
-    }
+    refuse_if(is_malformed(note), Reason::Note)?;
     let count = read_big(note, COUNT_AT, COUNT_BYTES);
-    if out.len() < 2 * count as usize {
-        return refused_note(Reason::OutputShort);
-    }
+    refuse_if(out.len() < 2 * count as usize, Reason::OutputShort)?;
     put_bounds(note, count, out);
-    let uuid = uuid_of(note);
-    NoteRead {
-        verdict: Checked::Good,
-        uuid,
+    Ok(NoteRead {
+        uuid: uuid_of(note),
         ranges: count,
-    }
+    })
 }

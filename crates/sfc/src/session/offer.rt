@@ -5,18 +5,18 @@ ghost use Rattle.sfc.specs.session.Offer.{restarts, scratch_after, finished_afte
 ghost use Rattle.sfc.specs.inner.Steps.{Stepped, stepped, Welcome, judged_of, judged};
 ghost use Rattle.sfc.specs.inner.Spots.{Fitting};
 
-use crate::answer::places::{BlockNumber, BytePlace, ColumnCount, Spot};
-use crate::answer::reason::{Checked, Reason, number_of};
+use crate::answer::places::{BlockNumber, BytePlace, ColumnCount};
+use crate::answer::reason::Reason;
 use crate::format::chunk::{check_all, index_of};
 use crate::format::header::Head;
 use crate::format::layout::CHUNK_HEADER;
 use crate::format::spot::spot_for;
-use crate::session::lent::{is_lent_wrong, is_rebuilding_wrong};
 use crate::session::marks::{ABSENT, BARRED, HELD};
 use crate::session::tallies::{Tallies, is_full, with_fresh, with_refusal, with_repeat};
 
-// What an offer came to: the block, and its place in the store; or the reason of a refusal.
-#[derive(Clone, Copy)]
+// What an offer came to: the block, and its place in the store; or the reason of a refusal. Document 01 names the form of this
+// type and of the next.
+#[derive(Clone, Copy, PartialEq, Eq, Debug)]
 pub enum Verdict {
     Fresh(BlockNumber, BytePlace),
     Repeat(BlockNumber, BytePlace),
@@ -28,7 +28,7 @@ pub enum Verdict {
 pub struct OfferAnswer {
     pub verdict: Verdict,
     pub tallies: Tallies,
-    pub spot: Spot,
+    pub spot: Option<BytePlace>,
     pub finished: ColumnCount,
 }
 
@@ -54,14 +54,14 @@ fn offer_block(block: &mut [u8], mark: u8, payload: &[u8]) -> Step
     ensures { ◌≡◌ {A = Stepped} (record { block = block.new; step = result }) (stepped mark block.old payload.now) }
 {
     if mark == ABSENT {
-        little::copy(payload, block);
+        block.copy_from_slice(payload);
         return Step::Laid;
     }
     if mark == HELD {
         if little::is_same(block, payload) {
             return Step::Copy;
         }
-        little::clear8(block);
+        little::clear(block);
         return Step::Differs;
     }
     Step::Barred
@@ -125,7 +125,7 @@ fn offer_chunk(
 ) -> Judgement
     ensures { judged_of store.new marks.new result.tallies result.verdict ≡ judged h (session_of store.old marks.old tallies) chunk.now }
 {
-    if is_lent_wrong(h.size, h.n, h.m, h.s, store, marks) {
+    if h.is_lent_wrong(store, marks) {
         return refused(Reason::Lent, tallies);
     }
     if is_full(tallies) {
@@ -133,34 +133,31 @@ fn offer_chunk(
     }
     let checked = check_all(h, chunk);
     match checked {
-        Checked::Refused(reason) => refused(reason, with_refusal(tallies, reason)),
-        Checked::Good => offer_whole(h, tallies, store, marks, chunk),
+        Err(reason) => refused(reason, with_refusal(tallies, reason)),
+        Ok(()) => offer_whole(h, tallies, store, marks, chunk),
     }
 }
 
 // What was refused broke at the place of its number.
-fn spot_of(h: Head, chunk: &[u8], verdict: Verdict) -> Spot
+fn spot_of(h: Head, chunk: &[u8], verdict: Verdict) -> Option<BytePlace>
     requires { Fitting chunk.now verdict }
     ensures { result ≡ spot_of h chunk.now verdict }
 {
     match verdict {
-        Verdict::Fresh(_, _) => Spot::Nowhere,
-        Verdict::Repeat(_, _) => Spot::Nowhere,
+        Verdict::Fresh(_, _) => None,
+        Verdict::Repeat(_, _) => None,
         Verdict::Refused(reason) => spot_for(h, chunk, reason),
     }
 }
 
-// The number of a copy that differs, which bars its index.
-const CONFLICTING: u8 = 41;
-
-// Whether other blocks are held than before.
+// Whether other blocks are held than before: a copy that differs bars its index.
 fn is_restart(verdict: Verdict) -> bool
     ensures { result ≡ restarts verdict }
 {
     match verdict {
         Verdict::Fresh(_, _) => true,
         Verdict::Repeat(_, _) => false,
-        Verdict::Refused(reason) => number_of(reason) == CONFLICTING,
+        Verdict::Refused(reason) => reason == Reason::Conflict,
     }
 }
 
@@ -171,12 +168,12 @@ fn finished_after(verdict: Verdict, scratch: &mut [u8], finished: ColumnCount) -
     if !is_restart(verdict) {
         return finished;
     }
-    little::clear8(scratch);
+    little::clear(scratch);
     ColumnCount(0)
 }
 
 // Any bytes may be offered as a chunk. Store and marks change only with a fresh chunk, and with a copy that differs; scratch and
-// the finished columns of a rebuild are zeros after these, and else stay.
+// the finished columns of a rebuild are zeros after these, and else stay. Memory is lent one by one: session/lent.rt says why.
 pub fn offer(
     h: Head,
     tallies: Tallies,
@@ -188,11 +185,11 @@ pub fn offer(
 ) -> OfferAnswer
     ensures { offered_of (logged_of store.new marks.new result.tallies scratch.new result.finished.0) result.verdict result.spot ≡ offered h (logged_of store.old marks.old tallies scratch.old finished.0) chunk.now }
 {
-    if is_rebuilding_wrong(h.m, h.s, scratch, finished.0) {
+    if h.is_rebuilding_wrong(scratch, finished.0) {
         return OfferAnswer {
             verdict: Verdict::Refused(Reason::Lent),
             tallies,
-            spot: Spot::Nowhere,
+            spot: None,
             finished,
         };
     }

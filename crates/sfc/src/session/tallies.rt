@@ -3,7 +3,7 @@ ghost use Rattle.std.specs.Prelude.{◌≡◌, ◌+◌, ◌<◌, ◌≤◌};
 ghost use Rattle.sfc.specs.answer.Numbers.{number_of};
 ghost use Rattle.sfc.specs.session.Tallies.{no_tallies, sum, total, tally_full, counted_refusal};
 
-use crate::answer::reason::{Reason, number_of};
+use crate::answer::reason::Reason;
 
 // The numbers that are counted, from the first on.
 const FIRST_COUNTED: usize = 30;
@@ -13,7 +13,7 @@ const COUNTED: usize = 13;
 // So many offers are counted in all; then 43.
 const MOST_OFFERS: u64 = 4294967295;
 
-// Refusals by number k are counted at k - 30.
+// Refusals by number k are counted at k - 30: an array, handed over by value, as document 01 has it.
 #[derive(Clone, Copy)]
 pub struct Tallies {
     pub fresh: u32,
@@ -38,13 +38,7 @@ impl Tallies {
 fn sum_of(counts: [u32; COUNTED]) -> u64
     ensures { (result ≡ sum counts) × (result ≤ 55834574835) }
 {
-    let mut left = COUNTED;
-    let mut total: u64 = 0;
-    while 0 < left {
-        left -= 1;
-        total = counts[left] as u64 + total;
-    }
-    total
+    counts.iter().map(|count| u64::from(*count)).sum()
 }
 
 // 43
@@ -61,7 +55,7 @@ pub(crate) fn with_refusal(t: Tallies, reason: Reason) -> Tallies
     ensures { result ≡ counted_refusal t (number_of reason) }
 {
     let mut next = t;
-    let at = number_of(reason) as usize - FIRST_COUNTED;
+    let at = u8::from(reason) as usize - FIRST_COUNTED;
     next.refused[at] = next.refused[at] + 1;
     next
 }
@@ -70,11 +64,9 @@ pub(crate) fn with_fresh(t: Tallies) -> Tallies
     requires { total t < 4294967295 }
     ensures { result ≡ record { fresh = t.fresh + 1; repeat = t.repeat; refused = t.refused } }
 {
-    let refused = t.refused;
     Tallies {
         fresh: t.fresh + 1,
-        repeat: t.repeat,
-        refused,
+        ..t
     }
 }
 
@@ -82,10 +74,8 @@ pub(crate) fn with_repeat(t: Tallies) -> Tallies
     requires { total t < 4294967295 }
     ensures { result ≡ record { fresh = t.fresh; repeat = t.repeat + 1; refused = t.refused } }
 {
-    let refused = t.refused;
     Tallies {
-        fresh: t.fresh,
         repeat: t.repeat + 1,
-        refused,
+        ..t
     }
 }

@@ -1,14 +1,15 @@
 // The parts of a written file, each put over the whole of a lent part of the output.
-ghost use Rattle.std.specs.Prelude.{◌≡◌, false, ◌++◌, ◌+◌, ◌-◌, ◌*◌, ◌^◌, ◌<◌, ◌≤◌, length, take};
-ghost use Rattle.little.specs.Parts.{block};
-ghost use Rattle.cauchy.specs.Code.{joined, recovery_block, code_block};
-ghost use Rattle.cauchy.specs.Calls.{wrong_shape, up_to_four};
+ghost use Rattle.std.specs.Prelude.{◌≡◌, false, ◌+◌, ◌-◌, ◌*◌, ◌^◌, ◌<◌, ◌≤◌, length, take};
+ghost use Rattle.cauchy.specs.Code.{joined};
+ghost use Rattle.cauchy.specs.Calls.{up_to_four};
 ghost use Rattle.sfc.specs.format.Bytes.{padded};
 ghost use Rattle.sfc.specs.session.Lent.{shape_wrong};
-ghost use Rattle.sfc.specs.writing.Writer.{erasure_for, identity_bytes, shape_bytes, index_bytes, preamble, trailer_bytes, chunk_header, sealed, chunk_bytes};
+ghost use Rattle.sfc.specs.writing.Writer.{erasure_for, identity_bytes, shape_bytes, index_bytes, preamble, trailer_bytes, chunk_header, sealed};
+ghost use Rattle.sfc.specs.inner.Writing.{chunk_of, run_chunk, recovery_chunk, code_chunk, Planned, all_of};
 
 use crate::format::chunk::type_for;
 use crate::format::layout::*;
+use cauchy::Shape;
 
 // The identity is the region from its UUID up to N, with these places in it.
 const SIZE_PLACE: usize = SIZE_AT - UUID_AT;
@@ -34,6 +35,7 @@ const PRIORITIES_PLACE: usize = PRIORITIES_AT - N_AT;
 
 const LONGEST_BLOCK: usize = MOST_BLOCK as usize;
 
+// An identifier of the file, which any byte may stand for, and so no enum.
 pub(crate) fn erasure_for(m: u32) -> u8
     ensures { result ≡ erasure_for m }
 {
@@ -45,20 +47,21 @@ pub(crate) fn put_padded(b: &[u8], d: &mut [u8])
     requires { length b.now ≤ length d.old }
     ensures { d.new ≡ padded (length d.old) b.now }
 {
-    little::copy(b, d);
     let end = b.len();
-    little::clear8(&mut d[end..]);
+    d[..end].copy_from_slice(b);
+    little::clear(&mut d[end..]);
 }
 
 pub(crate) fn put_preamble(d: &mut [u8])
     requires { length d.old ≡ 8 }
     ensures { d.new ≡ preamble }
 {
-    little::copy(b"SFC\0", &mut d[0..4]);
-    little::write16(d, 4, 0);
-    little::write16(d, 6, 1);
+    d[0..MAJOR_AT].copy_from_slice(&MAGIC);
+    little::write16(d, MAJOR_AT, 0);
+    little::write16(d, MINOR_AT, 1);
 }
 
+// The fields of the format in their order; this and `put_shape` have one caller each, which has them one by one.
 pub(crate) fn put_identity(
     uuid: [u8; 16],
     size: u64,
@@ -70,11 +73,11 @@ pub(crate) fn put_identity(
     requires { (length d.old ≡ 313) × (length name.now ≤ 255) }
     ensures { d.new ≡ identity_bytes uuid size format name.now digest }
 {
-    little::copy(&uuid, &mut d[0..UUID_ROOM]);
+    d[0..UUID_ROOM].copy_from_slice(&uuid);
     little::write64(d, SIZE_PLACE, size);
     little::write16(d, FORMAT_PLACE, format);
     put_padded(name, &mut d[NAME_PLACE..HASH_PLACE]);
-    little::copy(&digest, &mut d[HASH_PLACE..IDENTITY]);
+    d[HASH_PLACE..IDENTITY].copy_from_slice(&digest);
 }
 
 pub(crate) fn put_shape(n: u32, m: u32, s: u32, flags: u16, p: u16, d: &mut [u8])
@@ -84,8 +87,7 @@ pub(crate) fn put_shape(n: u32, m: u32, s: u32, flags: u16, p: u16, d: &mut [u8]
     little::write32(d, 0, n);
     little::write32(d, M_PLACE, m);
     little::write32(d, S_PLACE, s);
-    let identifiers = [erasure_for(m), 0];
-    little::copy(&identifiers, &mut d[IDENTIFIERS_PLACE..FLAGS_PLACE]);
+    d[IDENTIFIERS_PLACE..FLAGS_PLACE].copy_from_slice(&[erasure_for(m), 0]);
     little::write16(d, FLAGS_PLACE, flags);
     little::write16(d, PRIORITIES_PLACE, p);
 }
@@ -94,28 +96,35 @@ pub(crate) fn put_indices(list: &[u32], d: &mut [u8])
     requires { length d.old ≡ 4 * length list.now }
     ensures { d.new ≡ index_bytes list.now }
 {
-    let mut i = 0;
-    while i < list.len() {
-        little::write32(d, 4 * i, list[i]);
-        i += 1;
+    for (i, index) in list.iter().enumerate() {
+        little::write32(d, 4 * i, *index);
     }
 }
 
-fn put_chunk_header(uuid: [u8; 16], n: u32, m: u32, s: u32, i: u32, d: &mut [u8])
-    requires { length d.old ≡ 48 }
-    ensures { d.new ≡ chunk_header uuid n m s i }
+pub(crate) fn put_trailer(digest: [u8; 32], time: u64, d: &mut [u8])
+    requires { length d.old ≡ 64 }
+    ensures { d.new ≡ trailer_bytes digest time }
 {
-    little::copy(b"CHK\0", &mut d[0..CHUNK_UUID_AT]);
-    little::copy(&uuid, &mut d[CHUNK_UUID_AT..CHUNK_INDEX_AT]);
-    little::write32(d, CHUNK_INDEX_AT, i);
-    little::write32(d, CHUNK_TYPE_AT, type_for(n, i));
-    little::write32(d, CHUNK_LENGTH_AT, s);
-    let identifiers = [0, erasure_for(m)];
-    little::copy(
-        &identifiers,
-        &mut d[CHUNK_COMPRESSION_AT..CHUNK_RESERVED_AT],
-    );
-    little::clear8(&mut d[CHUNK_RESERVED_AT..CHUNK_HEADER]);
+    d[0..TRAILER_HASH_AT].copy_from_slice(&TRAILER_MAGIC);
+    d[TRAILER_HASH_AT..TRAILER_TIME_AT].copy_from_slice(&digest);
+    little::write64(d, TRAILER_TIME_AT, time);
+    little::clear(&mut d[TRAILER_RESERVED_AT..TRAILER]);
+}
+
+// What all chunks of a file share: whose they are, and N, M and S.
+#[derive(Clone, Copy)]
+pub(crate) struct Plan {
+    pub(crate) uuid: [u8; 16],
+    pub(crate) n: u32,
+    pub(crate) m: u32,
+    pub(crate) s: u32,
+}
+
+// The data blocks, of which the last lies apart from those before it.
+#[derive(Clone, Copy)]
+struct DataBlocks<'a> {
+    front: &'a [u8],
+    last: &'a [u8],
 }
 
 // The trailer of a chunk whose header and payload stand before it.
@@ -126,172 +135,118 @@ fn seal(c: &mut [u8])
     let at = c.len() - CHUNK_TRAILER;
     let digest = blake3::hash(&c[..at]);
     let end = at + HASH_ROOM;
-    little::copy(&digest, &mut c[at..end]);
-    little::copy(b"/CHK", &mut c[end..]);
+    c[at..end].copy_from_slice(&digest);
+    c[end..].copy_from_slice(&END_MARKER);
 }
 
-fn put_chunk(uuid: [u8; 16], n: u32, m: u32, s: u32, i: u32, payload: &[u8], c: &mut [u8])
-    requires { length c.old ≡ 84 + length payload.now }
-    ensures { c.new ≡ chunk_bytes uuid n m s i payload.now }
-{
-    put_chunk_header(uuid, n, m, s, i, &mut c[0..CHUNK_HEADER]);
-    let end = c.len() - CHUNK_TRAILER;
-    little::copy(payload, &mut c[CHUNK_HEADER..end]);
-    seal(c);
-}
-
-pub(crate) fn put_trailer(digest: [u8; 32], time: u64, d: &mut [u8])
-    requires { length d.old ≡ 64 }
-    ensures { d.new ≡ trailer_bytes digest time }
-{
-    little::copy(b"TRLR\0\0\0\0", &mut d[0..TRAILER_HASH_AT]);
-    little::copy(&digest, &mut d[TRAILER_HASH_AT..TRAILER_TIME_AT]);
-    little::write64(d, TRAILER_TIME_AT, time);
-    little::clear8(&mut d[TRAILER_RESERVED_AT..TRAILER]);
-}
-
-// The chunks of `count` blocks that lie one after the other, with the indices from `first` on.
-fn put_run(
-    uuid: [u8; 16],
-    n: u32,
-    m: u32,
-    s: u32,
-    first: u32,
-    count: u32,
-    blocks: &[u8],
-    d: &mut [u8],
-)
-    requires { (first + count < 2 ^ 32) × (length blocks.now ≡ count * s) × (length d.old ≡ count * (84 + s)) }
-    ensures { d.new ≡ joined (λ i. chunk_bytes uuid n m s (first + i) (block s blocks.now i)) 0 count }
-{
-    let mut i: u32 = 0;
-    let mut from = 0;
-    let mut at = 0;
-    while i < count {
-        let to = from + s as usize;
-        let end = at + CHUNK_OUTER + s as usize;
-        put_chunk(uuid, n, m, s, first + i, &blocks[from..to], &mut d[at..end]);
-        i += 1;
-        from = to;
-        at = end;
+impl Plan {
+    fn chunk_length(self) -> usize
+        ensures { result ≡ 84 + self.s }
+    {
+        CHUNK_OUTER + self.s as usize
     }
-}
 
-// The chunks of the recovery blocks from k on, up to four. The blocks are made in `four`, where they lie one after the other:
-// their places in the chunks lie apart, and two parts of lent memory cannot be lent at once.
-fn put_four(
-    uuid: [u8; 16],
-    n: u32,
-    m: u32,
-    s: u32,
-    k: u32,
-    count: u32,
-    front: &[u8],
-    last: &[u8],
-    four: &mut [u8],
-    d: &mut [u8],
-)
-    requires { (wrong_shape n m s ≡ false) × (k < m) × (count ≡ up_to_four m k) × (length front.now ≡ (n - 1) * s) × (length last.now ≡ s) × (length four.old ≡ count * s) × (length d.old ≡ count * (84 + s)) }
-    ensures { d.new ≡ joined (λ i. chunk_bytes uuid n m s (n + i) (recovery_block n m s (front.now ++ last.now) i)) k count }
-{
-    cauchy::recovery_four(
-        n as usize, m as usize, s as usize, k as usize, front, last, four,
-    );
-    put_run(uuid, n, m, s, n + k, count, four, d);
-}
-
-// The recovery chunks, four at a time, with room for four blocks of any size in `four`.
-fn put_recovery_chunks_with(
-    uuid: [u8; 16],
-    n: u32,
-    m: u32,
-    s: u32,
-    front: &[u8],
-    last: &[u8],
-    four: &mut [u8],
-    d: &mut [u8],
-)
-    requires { (wrong_shape n m s ≡ false) × (length front.now ≡ (n - 1) * s) × (length last.now ≡ s) × (length four.old ≡ 16384) × (length d.old ≡ m * (84 + s)) }
-    ensures { d.new ≡ joined (λ k. chunk_bytes uuid n m s (n + k) (recovery_block n m s (front.now ++ last.now) k)) 0 m }
-{
-    let width = s as usize;
-    let mut k: u32 = 0;
-    let mut at = 0;
-    while k < m {
-        let count = little::least(4, (m - k) as usize);
-        let room = count * width;
-        let end = at + count * (CHUNK_OUTER + width);
-        put_four(
-            uuid,
-            n,
-            m,
-            s,
-            k,
-            count as u32,
-            front,
-            last,
-            &mut four[..room],
-            &mut d[at..end],
-        );
-        k += count as u32;
-        at = end;
+    fn put_chunk_header(self, i: u32, d: &mut [u8])
+        requires { length d.old ≡ 48 }
+        ensures { d.new ≡ chunk_header self.uuid self.n self.m self.s i }
+    {
+        d[0..CHUNK_UUID_AT].copy_from_slice(&CHUNK_MAGIC);
+        d[CHUNK_UUID_AT..CHUNK_INDEX_AT].copy_from_slice(&self.uuid);
+        little::write32(d, CHUNK_INDEX_AT, i);
+        little::write32(d, CHUNK_TYPE_AT, type_for(self.n, i));
+        little::write32(d, CHUNK_LENGTH_AT, self.s);
+        d[CHUNK_COMPRESSION_AT..CHUNK_RESERVED_AT].copy_from_slice(&[0, erasure_for(self.m)]);
+        little::clear(&mut d[CHUNK_RESERVED_AT..CHUNK_HEADER]);
     }
-}
 
-fn put_recovery_chunks(
-    uuid: [u8; 16],
-    n: u32,
-    m: u32,
-    s: u32,
-    front: &[u8],
-    last: &[u8],
-    d: &mut [u8],
-)
-    requires { (wrong_shape n m s ≡ false) × (length front.now ≡ (n - 1) * s) × (length last.now ≡ s) × (length d.old ≡ m * (84 + s)) }
-    ensures { d.new ≡ joined (λ k. chunk_bytes uuid n m s (n + k) (recovery_block n m s (front.now ++ last.now) k)) 0 m }
-{
-    let mut four = [0u8; 4 * LONGEST_BLOCK];
-    put_recovery_chunks_with(uuid, n, m, s, front, last, &mut four, d);
-}
+    fn put_chunk(self, i: u32, payload: &[u8], c: &mut [u8])
+        requires { length c.old ≡ 84 + length payload.now }
+        ensures { c.new ≡ chunk_of self i payload.now }
+    {
+        self.put_chunk_header(i, &mut c[0..CHUNK_HEADER]);
+        let end = c.len() - CHUNK_TRAILER;
+        c[CHUNK_HEADER..end].copy_from_slice(payload);
+        seal(c);
+    }
 
-// All chunks, from data blocks of which the last lies apart from those before it.
-fn put_all_chunks(uuid: [u8; 16], n: u32, m: u32, s: u32, front: &[u8], last: &[u8], d: &mut [u8])
-    requires { (wrong_shape n m s ≡ false) × (length front.now ≡ (n - 1) * s) × (length last.now ≡ s) × (length d.old ≡ (n + m) * (84 + s)) }
-    ensures { d.new ≡ joined (λ i. chunk_bytes uuid n m s i (code_block n m s (front.now ++ last.now) i)) 0 (n + m) }
-{
-    let width = CHUNK_OUTER + s as usize;
-    let at = (n as usize - 1) * width;
-    let end = at + width;
-    put_run(uuid, n, m, s, 0, n - 1, front, &mut d[..at]);
-    put_chunk(uuid, n, m, s, n - 1, last, &mut d[at..end]);
-    put_recovery_chunks(uuid, n, m, s, front, last, &mut d[end..]);
-}
+    // The chunks of `count` blocks that lie one after the other, with the indices from `first` on.
+    fn put_run(self, first: u32, count: u32, blocks: &[u8], d: &mut [u8])
+        requires { (first + count < 2 ^ 32) × (length blocks.now ≡ count * self.s) × (length d.old ≡ count * (84 + self.s)) }
+        ensures { d.new ≡ joined (run_chunk self first blocks.now) 0 count }
+    {
+        let width = self.s as usize;
+        let room = self.chunk_length();
+        for i in 0..count {
+            let from = i as usize * width;
+            let at = i as usize * room;
+            self.put_chunk(
+                first + i,
+                &blocks[from..from + width],
+                &mut d[at..at + room],
+            );
+        }
+    }
 
-// The chunks of a content, whose last block is padded in `last`.
-fn put_chunks_with(
-    uuid: [u8; 16],
-    n: u32,
-    m: u32,
-    s: u32,
-    content: &[u8],
-    last: &mut [u8],
-    d: &mut [u8],
-)
-    requires { (shape_wrong (length content.now) n m s ≡ false) × (length last.old ≡ 4096) × (length d.old ≡ (n + m) * (84 + s)) }
-    ensures { d.new ≡ joined (λ i. chunk_bytes uuid n m s i (code_block n m s (padded (n * s) content.now) i)) 0 (n + m) }
-{
-    let width = s as usize;
-    let at = (n as usize - 1) * width;
-    put_padded(&content[at..], &mut last[..width]);
-    put_all_chunks(uuid, n, m, s, &content[..at], &last[..width], d);
-}
+    // The chunks of the recovery blocks from k on, up to four. The blocks are made in `four`, where they lie one after the other:
+    // their places in the chunks lie apart, and two parts of lent memory cannot be lent at once.
+    fn put_four(self, k: u32, count: u32, given: &DataBlocks, four: &mut [u8], d: &mut [u8])
+        requires { Planned self given.now × (k < self.m) × (count ≡ up_to_four self.m k) × (length four.old ≡ count * self.s) × (length d.old ≡ count * (84 + self.s)) }
+        ensures { d.new ≡ joined (recovery_chunk self (all_of given.now)) k count }
+    {
+        let shape = Shape {
+            n: self.n as usize,
+            m: self.m as usize,
+            s: self.s as usize,
+        };
+        cauchy::recovery_four(shape, k as usize, given.front, given.last, four).unwrap();
+        self.put_run(self.n + k, count, four, d);
+    }
 
-// No two parts of lent memory can be lent at once, so the recovery blocks are made from the content and not from the data
-// chunks before them.
-pub(crate) fn put_chunks(uuid: [u8; 16], n: u32, m: u32, s: u32, content: &[u8], d: &mut [u8])
-    requires { (shape_wrong (length content.now) n m s ≡ false) × (length d.old ≡ (n + m) * (84 + s)) }
-    ensures { d.new ≡ joined (λ i. chunk_bytes uuid n m s i (code_block n m s (padded (n * s) content.now) i)) 0 (n + m) }
-{
-    let mut last = [0u8; LONGEST_BLOCK];
-    put_chunks_with(uuid, n, m, s, content, &mut last, d);
+    // The recovery chunks, four at a time.
+    fn put_recovery_chunks(self, given: &DataBlocks, d: &mut [u8])
+        requires { Planned self given.now × (length d.old ≡ self.m * (84 + self.s)) }
+        ensures { d.new ≡ joined (recovery_chunk self (all_of given.now)) 0 self.m }
+    {
+        let width = self.s as usize;
+        let room = self.chunk_length();
+        let mut four = [0u8; 4 * LONGEST_BLOCK];
+        for k in (0..self.m).step_by(4) {
+            let count = u32::min(4, self.m - k);
+            let blocks = count as usize * width;
+            let at = k as usize * room;
+            let end = at + count as usize * room;
+            self.put_four(k, count, given, &mut four[..blocks], &mut d[at..end]);
+        }
+    }
+
+    // All chunks, from data blocks of which the last lies apart from those before it.
+    fn put_all_chunks(self, given: &DataBlocks, d: &mut [u8])
+        requires { Planned self given.now × (length d.old ≡ (self.n + self.m) * (84 + self.s)) }
+        ensures { d.new ≡ joined (code_chunk self (all_of given.now)) 0 (self.n + self.m) }
+    {
+        let room = self.chunk_length();
+        let before_last = self.n - 1;
+        let at = before_last as usize * room;
+        let end = at + room;
+        self.put_run(0, before_last, given.front, &mut d[..at]);
+        self.put_chunk(before_last, given.last, &mut d[at..end]);
+        self.put_recovery_chunks(given, &mut d[end..]);
+    }
+
+    // The chunks of a content, whose last block is padded apart. No two parts of lent memory can be lent at once, so the recovery
+    // blocks are made from the content and not from the data chunks before them.
+    pub(crate) fn put_chunks(self, content: &[u8], d: &mut [u8])
+        requires { (shape_wrong (length content.now) self.n self.m self.s ≡ false) × (length d.old ≡ (self.n + self.m) * (84 + self.s)) }
+        ensures { d.new ≡ joined (code_chunk self (padded (self.n * self.s) content.now)) 0 (self.n + self.m) }
+    {
+        let width = self.s as usize;
+        let at = (self.n as usize - 1) * width;
+        let mut last = [0u8; LONGEST_BLOCK];
+        put_padded(&content[at..], &mut last[..width]);
+        let given = DataBlocks {
+            front: &content[..at],
+            last: &last[..width],
+        };
+        self.put_all_chunks(&given, d);
+    }
 }

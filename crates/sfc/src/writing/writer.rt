@@ -2,18 +2,17 @@
 ghost use Rattle.std.specs.Prelude.{◌≡◌};
 ghost use Rattle.sfc.specs.answer.Numbers.{answered};
 ghost use Rattle.sfc.specs.writing.Writer.{input_of, region, file_of, input_wrong, write_file};
-ghost use Rattle.sfc.specs.inner.Writing.{Ready};
+ghost use Rattle.sfc.specs.inner.Writing.{Ready, given};
 
+use crate::answer::checks::refuse_if;
 use crate::answer::reason::Reason;
-use crate::answer::written::Written;
 use crate::format::extension::{are_fields_wrong, do_tags_fall, has_tag_within};
 use crate::format::layout::*;
-use crate::format::limits::{are_flags_barred, wanted_blocks};
+use crate::format::limits::{Shape, are_flags_barred, wanted_blocks};
 use crate::format::priority::is_distinct_below;
 use crate::format::text::is_name_wrong;
-use crate::session::lent::is_shape_wrong;
 use crate::writing::parts::{
-    put_chunks, put_identity, put_indices, put_preamble, put_shape, put_trailer,
+    Plan, put_identity, put_indices, put_preamble, put_shape, put_trailer,
 };
 
 // Limits, in the types of what is held against them here.
@@ -44,113 +43,106 @@ pub struct FileFacts {
     pub flags: u16,
 }
 
-// 60, decided from the inputs before a byte is written. The list is compared with itself only where n bounds the work.
-fn is_input_wrong(
+// What the caller gives, all of it.
+#[derive(Clone, Copy)]
+struct Input<'a> {
     facts: FileFacts,
-    content: &[u8],
-    name: &[u8],
-    priority: &[u32],
-    fields: &[u8],
-) -> bool
-    ensures { result ≡ input_wrong (input_of facts content.now name.now priority.now fields.now) }
-{
-    let size = content.len() as u64;
-    let s = facts.s;
-    if s == 0 {
-        return true;
-    }
-    let blocks = wanted_blocks(size, s);
-    if MOST_BLOCKS < blocks {
-        return true;
-    }
-    if (blocks as usize) < priority.len() {
-        return true;
-    }
-    let n = blocks as u32;
-    let m = facts.m;
-    let flags = facts.flags;
-    let h = H_BESIDE_LISTS + 4 * priority.len() + fields.len();
-    is_name_wrong(name)
-        | (LONGEST_H < h)
-        | has_tag_within(fields, FIRST_RESERVED, LAST_RESERVED)
-        | do_tags_fall(fields)
-        | is_shape_wrong(size, n, m, s)
-        | are_flags_barred(flags)
-        | !is_distinct_below(priority, n)
-        | are_fields_wrong(n as u64 + m as u64, flags, fields)
+    content: &'a [u8],
+    name: &'a [u8],
+    priority: &'a [u32],
+    fields: &'a [u8],
 }
 
-fn put_region(
-    facts: FileFacts,
-    n: u32,
-    content: &[u8],
-    name: &[u8],
-    priority: &[u32],
-    fields: &[u8],
-    r: &mut [u8],
-)
-    requires { Ready region (input_of facts content.now name.now priority.now fields.now) n r.old }
-    ensures { r.new ≡ region (input_of facts content.now name.now priority.now fields.now) }
-{
-    let h = r.len() - LENGTH_FIELD;
-    little::write32(r, 0, h as u32);
-    let digest = blake3::hash(content);
-    let uuid = facts.uuid;
-    let size = content.len() as u64;
-    put_identity(
-        uuid,
-        size,
-        facts.format,
-        name,
-        digest,
-        &mut r[UUID_AT..N_AT],
-    );
-    let count = priority.len();
-    put_shape(
-        n,
-        facts.m,
-        facts.s,
-        facts.flags,
-        count as u16,
-        &mut r[N_AT..HEADER_BEFORE_LISTS],
-    );
-    let end = HEADER_BEFORE_LISTS + 4 * count;
-    put_indices(priority, &mut r[HEADER_BEFORE_LISTS..end]);
-    little::copy(fields, &mut r[end..]);
+impl Input<'_> {
+    // 60, decided from the inputs before a byte is written. The list is compared with itself only where n bounds the work.
+    fn is_wrong(&self) -> bool
+        ensures { result ≡ input_wrong (given self.now) }
+    {
+        let size = self.content.len() as u64;
+        let s = self.facts.s;
+        if s == 0 {
+            return true;
+        }
+        let blocks = wanted_blocks(size, s);
+        if MOST_BLOCKS < blocks {
+            return true;
+        }
+        let priority = self.priority;
+        if (blocks as usize) < priority.len() {
+            return true;
+        }
+        let n = blocks as u32;
+        let m = self.facts.m;
+        let shape = Shape { size, n, m, s };
+        let flags = self.facts.flags;
+        let fields = self.fields;
+        let h = H_BESIDE_LISTS + 4 * priority.len() + fields.len();
+        is_name_wrong(self.name)
+            | (LONGEST_H < h)
+            | has_tag_within(fields, FIRST_RESERVED, LAST_RESERVED)
+            | do_tags_fall(fields)
+            | shape.is_wrong()
+            | are_flags_barred(flags)
+            | !is_distinct_below(priority, n)
+            | are_fields_wrong(n as u64 + m as u64, flags, fields)
+    }
+
+    fn put_region(&self, n: u32, r: &mut [u8])
+        requires { Ready region (given self.now) n r.old }
+        ensures { r.new ≡ region (given self.now) }
+    {
+        let facts = self.facts;
+        let h = r.len() - LENGTH_FIELD;
+        little::write32(r, 0, h as u32);
+        let digest = blake3::hash(self.content);
+        let size = self.content.len() as u64;
+        put_identity(
+            facts.uuid,
+            size,
+            facts.format,
+            self.name,
+            digest,
+            &mut r[UUID_AT..N_AT],
+        );
+        let count = self.priority.len();
+        put_shape(
+            n,
+            facts.m,
+            facts.s,
+            facts.flags,
+            count as u16,
+            &mut r[N_AT..HEADER_BEFORE_LISTS],
+        );
+        let end = HEADER_BEFORE_LISTS + 4 * count;
+        put_indices(self.priority, &mut r[HEADER_BEFORE_LISTS..end]);
+        r[end..].copy_from_slice(self.fields);
+    }
+
+    // The file over all of `out`.
+    fn put_file(&self, n: u32, out: &mut [u8])
+        requires { Ready file_of (given self.now) n out.old }
+        ensures { out.new ≡ file_of (given self.now) }
+    {
+        let facts = self.facts;
+        let start = FILE_BEFORE_LISTS + 4 * self.priority.len() + self.fields.len();
+        let end = out.len() - TRAILER;
+        put_preamble(&mut out[0..PREAMBLE]);
+        self.put_region(n, &mut out[REGION_AT..start]);
+        let digest = blake3::hash(&out[REGION_AT..start]);
+        let uuid = facts.uuid;
+        let plan = Plan {
+            uuid,
+            n,
+            m: facts.m,
+            s: facts.s,
+        };
+        plan.put_chunks(self.content, &mut out[start..end]);
+        put_trailer(digest, facts.time, &mut out[end..]);
+    }
 }
 
-// The file over all of `out`.
-fn put_file(
-    facts: FileFacts,
-    n: u32,
-    content: &[u8],
-    name: &[u8],
-    priority: &[u32],
-    fields: &[u8],
-    out: &mut [u8],
-)
-    requires { Ready file_of (input_of facts content.now name.now priority.now fields.now) n out.old }
-    ensures { out.new ≡ file_of (input_of facts content.now name.now priority.now fields.now) }
-{
-    let start = FILE_BEFORE_LISTS + 4 * priority.len() + fields.len();
-    let end = out.len() - TRAILER;
-    let uuid = facts.uuid;
-    put_preamble(&mut out[0..PREAMBLE]);
-    put_region(
-        facts,
-        n,
-        content,
-        name,
-        priority,
-        fields,
-        &mut out[REGION_AT..start],
-    );
-    let digest = blake3::hash(&out[REGION_AT..start]);
-    put_chunks(uuid, n, facts.m, facts.s, content, &mut out[start..end]);
-    put_trailer(digest, facts.time, &mut out[end..]);
-}
-
-// The file that the inputs make, at the output's front. What lies after it stays.
+// The file that the inputs make, at the output's front; the answer is how many bytes it has. What lies after it stays, and a
+// refusal leaves all as it was. The inputs come one by one, as the C interface lends them.
 pub fn write(
     facts: FileFacts,
     content: &[u8],
@@ -158,27 +150,22 @@ pub fn write(
     priority: &[u32],
     fields: &[u8],
     out: &mut [u8],
-) -> Written
+) -> Result<usize, Reason>
     ensures { answered result out.new ≡ write_file (input_of facts content.now name.now priority.now fields.now) out.old }
 {
-    if is_input_wrong(facts, content, name, priority, fields) {
-        return Written::Refused(Reason::WriterInput);
-    }
-    let n = wanted_blocks(content.len() as u64, facts.s) as u32;
-    let chunk = CHUNK_OUTER + facts.s as usize;
-    let chunks = (n as usize + facts.m as usize) * chunk;
-    let length = FILE_BESIDE_LISTS_AND_CHUNKS + 4 * priority.len() + fields.len() + chunks;
-    if out.len() < length {
-        return Written::Refused(Reason::WriterOutput);
-    }
-    put_file(
+    let input = Input {
         facts,
-        n,
         content,
         name,
         priority,
         fields,
-        &mut out[..length],
-    );
-    Written::Bytes(length)
+    };
+    refuse_if(input.is_wrong(), Reason::WriterInput)?;
+    let n = wanted_blocks(content.len() as u64, facts.s) as u32;
+    let chunk = CHUNK_OUTER + facts.s as usize;
+    let chunks = (n as usize + facts.m as usize) * chunk;
+    let length = FILE_BESIDE_LISTS_AND_CHUNKS + 4 * priority.len() + fields.len() + chunks;
+    refuse_if(out.len() < length, Reason::WriterOutput)?;
+    input.put_file(n, &mut out[..length]);
+    Ok(length)
 }

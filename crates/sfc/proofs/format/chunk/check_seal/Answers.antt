@@ -2,19 +2,7 @@
 use mathlib.Core.Path.{sym}
 use native.Mathlib.Omega.{arith}
 use lib.Seq.{length-take-le}
-use Rattle.sfc.proofs.answer.CheckLaws.{Then·simp}
 use Rattle.sfc.proofs.format.chunk.check_seal.Goals as goal
 
 pub slice_bounds-hash-end : goal.slice_bounds-hash-end
 slice_bounds-hash-end c = sym (length-take-le _ c.args.c.now (omega (arith, c.payload_length-payload.ensures, c.requires)))
-
-pub returns : goal.returns
-returns c = simp (
-  c.refuse_if.ensures,
-  c.stands_at-ended.ensures,
-  c.refuse_if-sealed.ensures,
-  c.stands_at.ensures,
-  c.hash-hash.ensures,
-  c.payload_length-payload.ensures,
-  Then·simp,
-)

@@ -1,72 +1,26 @@
 -- `sfc::format::extension::are_fields_wrong` meets its contract. The loop's invariant: what is left to find wrong is what is wrong with the whole. Assumes nothing.
-use mathlib.Core.Path.{refl}
-use native.Mathlib.Omega.{arith}
-use Rattle.little.proofs.Laws.{part_laws}
-use Rattle.sfc.proofs.format.FieldWalk.{next_inside, next_within}
-use Rattle.sfc.proofs.format.ExtensionLaws.{at_start, at-end, at_cut, at_broken, at_next}
+use Rattle.std.proofs.Common.{◌∙◌, ap, not}
+use Rattle.sfc.specs.inner.Fields.{seen}
+use Rattle.sfc.proofs.format.ExtensionLaws.{judging_start, judging_end, field_broken, field_good}
 use Rattle.sfc.proofs.format.extension.are_fields_wrong.Goals as goal
 
-pub loop-at-init : goal.loop-at-init
-loop-at-init c = let a = c.args in at_start a.blocks a.flags a.e.now
-
-pub returns-then-next-eq0 : goal.returns-then-next-eq0
-returns-then-next-eq0 c =
-    let a = c.args in
-    let l = c.loop-at in
-    at_cut a.blocks a.flags a.e.now l.at _ _ l.invariant (part_laws.part-rest a.e.now l.at) c.next_field-next.ensures c.loop-at-test.true c.if-next-eq0.true
-
-pub overflow_sub-length : goal.overflow_sub-length
-overflow_sub-length c =
-    let a = c.args in
-    let l = c.loop-at in
-    (next_inside a.e.now _ l.at _ (part_laws.part-rest a.e.now l.at) c.next_field-next.ensures c.if-next-eq0.false).0
-
-pub slice_bounds-comes_again-count : goal.slice_bounds-comes_again-count
-slice_bounds-comes_again-count c =
-    let a = c.args in
-    let l = c.loop-at in
-    omega (arith, next_within a.e.now _ l.at _ (part_laws.part-rest a.e.now l.at) c.next_field-next.ensures c.if-next-eq0.false)
-
-pub slice_bounds-comes_again-start : goal.slice_bounds-comes_again-start
-slice_bounds-comes_again-start c =
-    let a = c.args in
-    let l = c.loop-at in
-    omega (arith, next_within a.e.now _ l.at _ (part_laws.part-rest a.e.now l.at) c.next_field-next.ensures c.if-next-eq0.false)
-
-pub slice_bounds-comes_again-end : goal.slice_bounds-comes_again-end
-slice_bounds-comes_again-end c =
-    let a = c.args in
-    let l = c.loop-at in
-    omega (arith, next_within a.e.now _ l.at _ (part_laws.part-rest a.e.now l.at) c.next_field-next.ensures c.if-next-eq0.false)
+pub loop-field-init : goal.loop-field-init
+loop-field-init c = let a = c.args in judging_start a.blocks a.flags a.e.now _ c.of-fields.ensures
 
 pub returns-then-breaks_rule-comes_again : goal.returns-then-breaks_rule-comes_again
 returns-then-breaks_rule-comes_again c =
     let a = c.args in
-    let l = c.loop-at in
-    at_broken a.blocks a.flags a.e.now l.at _ _ l.invariant (part_laws.part-rest a.e.now l.at) c.next_field-next.ensures c.if-next-eq0.false _ refl
-    (rw (c.comes_again.ensures, c.breaks_rule.ensures, c.read16-tag.ensures) at c.if-breaks_rule-comes_again.true)
+    let s = c.in-Some.ensures.steps in
+    field_broken a.blocks a.flags a.e.now _ _ (seen c.in-Some.field) c.loop-field.invariant s.0 s.1 (rw (c.comes_again.ensures, c.breaks_rule.ensures) at c.if-breaks_rule-comes_again.true)
 
-pub overflow_add-at : goal.overflow_add-at
-overflow_add-at c =
+pub loop-field-preserved : goal.loop-field-preserved
+loop-field-preserved c =
     let a = c.args in
-    let l = c.loop-at in
-    omega (arith, next_inside a.e.now _ l.at _ (part_laws.part-rest a.e.now l.at) c.next_field-next.ensures c.if-next-eq0.false)
-
-pub loop-at-smaller : goal.loop-at-smaller
-loop-at-smaller c =
-    let a = c.args in
-    let l = c.loop-at in
-    omega (arith, next_inside a.e.now _ l.at _ (part_laws.part-rest a.e.now l.at) c.next_field-next.ensures c.if-next-eq0.false)
-
-pub loop-at-preserved : goal.loop-at-preserved
-loop-at-preserved c =
-    let a = c.args in
-    let l = c.loop-at in
-    at_next a.blocks a.flags a.e.now l.at _ _ l.invariant (part_laws.part-rest a.e.now l.at) c.next_field-next.ensures c.if-next-eq0.false _ refl
-    (rw (c.comes_again.ensures, c.breaks_rule.ensures, c.read16-tag.ensures) at c.if-breaks_rule-comes_again.false)
+    let s = c.in-Some.ensures.steps in
+    field_good a.blocks a.flags a.e.now _ _ (seen c.in-Some.field) c.loop-field.invariant s.0 s.1 (rw (c.comes_again.ensures, c.breaks_rule.ensures) at c.if-breaks_rule-comes_again.false)
 
 pub returns : goal.returns
 returns c =
     let a = c.args in
-    let l = c.loop-at in
-    at-end a.blocks a.flags a.e.now l.at c.loop-at-test.false l.invariant
+    let s = c.in_default.ensures.steps in
+    ap not c.is_empty.ensures ∙ judging_end a.blocks a.flags a.e.now _ _ c.loop-field.invariant s.0 s.1 s.2

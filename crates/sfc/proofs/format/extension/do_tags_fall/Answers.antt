@@ -1,48 +1,20 @@
--- `sfc::format::extension::do_tags_fall` meets its contract. The loop's invariant: the tags from here on fall, or the first of them below the last one met, exactly if the tags of the whole fall. Assumes nothing.
-use native.Mathlib.Omega.{arith}
-use Rattle.little.proofs.Laws.{part_laws}
-use Rattle.sfc.proofs.format.FieldWalk.{next_inside}
-use Rattle.sfc.proofs.format.TagLaws.{climbing_start, climbing_end, no_fall_left, fall_here, no_fall_here}
+-- `sfc::format::extension::do_tags_fall` meets its contract. The loop's invariant: the tags still to come fall, or the first of them below the last one met, exactly if the tags of the whole fall. Assumes nothing.
+use Rattle.std.proofs.Common.{◌∙◌, ap}
+use Rattle.sfc.specs.inner.Fields.{seen, fields_left}
+use Rattle.sfc.specs.format.Extension.{fields_of}
+use Rattle.sfc.proofs.format.TagLaws.{climbing_start, climbing_end, fall_here, no_fall_here}
 use Rattle.sfc.proofs.format.extension.do_tags_fall.Goals as goal
 
-pub loop-at-init : goal.loop-at-init
-loop-at-init c = let a = c.args in climbing_start a.e.now
+pub loop-field-init : goal.loop-field-init
+loop-field-init c = climbing_start c.args.e.now _ (ap fields_left c.into_iter-field-iterator.ensures.into_iter_gives ∙ ap fields_of c.of-field-items.ensures)
 
-pub returns-then-next-eq0 : goal.returns-then-next-eq0
-returns-then-next-eq0 c =
-    let a = c.args in
-    let l = c.loop-at in
-    no_fall_left a.e.now l.least l.at _ _ l.invariant (part_laws.part-rest a.e.now l.at) c.next_field-next.ensures c.if-next-eq0.true
+pub returns-then-field-least : goal.returns-then-field-least
+returns-then-field-least c =
+    fall_here c.args.e.now c.loop-field.least (seen c.in-Some.field) _ _ c.loop-field.invariant c.in-Some.ensures.steps.0 c.if-field-least.true
 
-pub returns-then-tag-least : goal.returns-then-tag-least
-returns-then-tag-least c =
-    let a = c.args in
-    let l = c.loop-at in
-    fall_here a.e.now l.least l.at _ _ l.invariant (part_laws.part-rest a.e.now l.at) c.next_field-next.ensures c.if-next-eq0.false
-    (omega (arith, c.read16-tag.ensures, c.if-tag-least.true))
-
-pub overflow_add-at : goal.overflow_add-at
-overflow_add-at c =
-    let a = c.args in
-    let l = c.loop-at in
-    omega (arith, next_inside a.e.now _ l.at _ (part_laws.part-rest a.e.now l.at) c.next_field-next.ensures c.if-next-eq0.false)
-
-pub loop-at-smaller : goal.loop-at-smaller
-loop-at-smaller c =
-    let a = c.args in
-    let l = c.loop-at in
-    omega (arith, next_inside a.e.now _ l.at _ (part_laws.part-rest a.e.now l.at) c.next_field-next.ensures c.if-next-eq0.false)
-
-pub loop-at-preserved : goal.loop-at-preserved
-loop-at-preserved c =
-    let a = c.args in
-    let l = c.loop-at in
-    rw c.read16-tag.ensures
-    (no_fall_here a.e.now l.least l.at _ _ l.invariant (part_laws.part-rest a.e.now l.at) c.next_field-next.ensures c.if-next-eq0.false
-    (omega (arith, c.read16-tag.ensures, c.if-tag-least.false)))
+pub loop-field-preserved : goal.loop-field-preserved
+loop-field-preserved c =
+    no_fall_here c.args.e.now c.loop-field.least (seen c.in-Some.field) _ _ c.loop-field.invariant c.in-Some.ensures.steps.0 c.if-field-least.false
 
 pub returns : goal.returns
-returns c =
-    let a = c.args in
-    let l = c.loop-at in
-    climbing_end a.e.now l.least l.at c.loop-at-test.false l.invariant
+returns c = climbing_end c.args.e.now c.loop-field.least _ c.in-None.ensures.steps.0 c.loop-field.invariant

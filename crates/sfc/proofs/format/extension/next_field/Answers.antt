@@ -1,14 +1,17 @@
--- `sfc::format::extension::next_field` computes its definition, by lengths. Assumes nothing.
-use Rattle.sfc.proofs.format.ExtensionLaws.{no_front, no_value, next_there}
+-- `sfc::format::extension::next_field` meets its contract, by lengths. Assumes nothing.
+use Rattle.sfc.proofs.format.FieldWalk.{short_front, short_value, field_given}
 use Rattle.sfc.proofs.format.extension.next_field.Goals as goal
 
-pub returns-then-e-lt-FIELD_FRONT : goal.returns-then-e-lt-FIELD_FRONT
-returns-then-e-lt-FIELD_FRONT c = no_front c.args.e.now c.if-e-lt-FIELD_FRONT.true
+pub returns-in_err-front : goal.returns-in_err-front
+returns-in_err-front c = rw c.from_residual.ensures (short_front c.args.e.now c.in_err-front.ensures.cases)
 
-pub returns-then-e-length : goal.returns-then-e-length
-returns-then-e-length c = no_value c.args.e.now c.if-e-lt-FIELD_FRONT.false (rw c.read32-length.ensures at c.if-e-length.true)
+pub returns-in_err-value : goal.returns-in_err-value
+returns-in_err-value c =
+    let front = c.in_ok-front.ensures.cases in
+    rw c.from_residual-in_err-value.ensures (short_value c.args.e.now _ _ _ front.0 front.1 front.2 c.read32-length.ensures c.in_err-value.ensures.cases)
 
 pub returns : goal.returns
 returns c =
-    rw c.read32-length.ensures
-    (next_there c.args.e.now c.if-e-lt-FIELD_FRONT.false (rw c.read32-length.ensures at c.if-e-length.false))
+    let front = c.in_ok-front.ensures.cases in
+    let value = c.in_ok-value.ensures.cases in
+    field_given c.args.e.now _ _ _ front.0 front.1 front.2 c.read32-length.ensures _ _ _ value.0 value.1 value.2 c.read16-tag.ensures

@@ -1,39 +1,24 @@
 -- `sfc::format::lookup::find_field` meets its contract: the header first, then the part of the input that has its fields. Assumes nothing.
-use mathlib.Core.Path.{refl}
+use mathlib.Core.Path.{refl, ◌∙◌}
 use native.Mathlib.Omega.{arith}
 use Rattle.sfc.proofs.format.LookupLaws.{inside, part_low, refused_field, shown_field}
+use Rattle.sfc.proofs.answer.CheckLaws.{passed_on}
 use Rattle.sfc.proofs.format.lookup.find_field.Goals as goal
 
 pub slice_bounds-find_in-count : goal.slice_bounds-find_in-count
-slice_bounds-find_in-count c =
-    let h = c.read_header-header in
-    let i = inside c.args.input.now c.args.tag h.result h.ensures c.in-Good.is in
-    omega (arith, i.list_ends)
+slice_bounds-find_in-count c = omega (arith, (inside c.args.input.now c.args.tag c.read_header.result c.read_header.ensures c.in_ok-head.head c.in_ok-head.was).list_ends)
 
 pub slice_bounds-find_in-start : goal.slice_bounds-find_in-start
-slice_bounds-find_in-start c =
-    let h = c.read_header-header in
-    let i = inside c.args.input.now c.args.tag h.result h.ensures c.in-Good.is in
-    omega (arith, i.list_ends)
+slice_bounds-find_in-start c = omega (arith, (inside c.args.input.now c.args.tag c.read_header.result c.read_header.ensures c.in_ok-head.head c.in_ok-head.was).list_ends)
 
 pub slice_bounds-find_in-end : goal.slice_bounds-find_in-end
-slice_bounds-find_in-end c =
-    let h = c.read_header-header in
-    let i = inside c.args.input.now c.args.tag h.result h.ensures c.in-Good.is in
-    omega (arith, i.trailer_room)
+slice_bounds-find_in-end c = omega (arith, (inside c.args.input.now c.args.tag c.read_header.result c.read_header.ensures c.in_ok-head.head c.in_ok-head.was).trailer_room)
 
 pub find_in-requires : goal.find_in-requires
-find_in-requires c =
-    let h = c.read_header-header in
-    let i = inside c.args.input.now c.args.tag h.result h.ensures c.in-Good.is in
-    part_low c.args.input.now h.result.head.header_length h.result.head.priorities i
+find_in-requires c = part_low c.args.input.now c.in_ok-head.head.header_length c.in_ok-head.head.priorities (inside c.args.input.now c.args.tag c.read_header.result c.read_header.ensures c.in_ok-head.head c.in_ok-head.was)
 
-pub returns-in-Refused : goal.returns-in-Refused
-returns-in-Refused c =
-    let h = c.read_header-header in
-    refused_field c.args.input.now c.args.tag h.result h.ensures _ c.in-Refused.is
+pub returns-in_err-head : goal.returns-in_err-head
+returns-in_err-head c = passed_on _ _ c.from_residual.ensures.1 ∙ refused_field c.args.input.now c.args.tag c.read_header.result c.read_header.ensures _ c.in_err-head.was
 
-pub returns-in-Good : goal.returns-in-Good
-returns-in-Good c =
-    let h = c.read_header-header in
-    shown_field c.args.input.now c.args.tag h.result h.ensures c.in-Good.is _ _ _ refl refl c.find_in.ensures
+pub returns : goal.returns
+returns c = shown_field c.args.input.now c.args.tag c.read_header.result c.read_header.ensures c.in_ok-head.head c.in_ok-head.was _ _ _ refl refl c.find_in.ensures

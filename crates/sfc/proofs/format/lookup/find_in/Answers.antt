@@ -1,59 +1,30 @@
--- `sfc::format::lookup::find_in` meets its contract. The loop's invariant: what is left to be found is what is to be found at all. Assumes nothing.
-use native.Mathlib.Omega.{arith}
-use Rattle.little.proofs.Laws.{part_laws}
-use Rattle.sfc.proofs.format.FieldWalk.{next_inside}
-use Rattle.sfc.proofs.format.LookupLaws.{walking_start, walking_end, none_left, found, not_this}
+-- `sfc::format::lookup::find_in` meets its contract. The loop's invariant: what is left to be found is what is to be found at all, and `at` is the place of what lies there. Assumes nothing.
+use Rattle.std.proofs.Common.{◌≡◌, ◌∙◌, ap, arith, length}
+use Rattle.sfc.specs.inner.Fields.{seen}
+use Rattle.sfc.specs.format.Extension.{fields_of}
+use Rattle.sfc.proofs.format.LookupLaws.{walking_start, walking_end, found, not_this}
 use Rattle.sfc.proofs.format.lookup.find_in.Goals as goal
 
-pub loop-at-init : goal.loop-at-init
-loop-at-init c = let a = c.args in walking_start a.tag a.start a.e.now
-
-pub returns-then-next-eq0 : goal.returns-then-next-eq0
-returns-then-next-eq0 c =
+pub loop-field-init : goal.loop-field-init
+loop-field-init c =
     let a = c.args in
-    let l = c.loop-at in
-    none_left a.tag a.start a.e.now l.at _ _ l.invariant (part_laws.part-rest a.e.now l.at) c.next_field-next.ensures c.if-next-eq0.true
+    let same : c.into_iter-field-iterator.result.rest.now ≡ a.e.now = ap (λ s. s.rest.now) c.into_iter-field-iterator.ensures.into_iter_gives ∙ c.of-field-items.ensures in
+    (walking_start a.tag a.start a.e.now _ (ap fields_of same), omega (arith, ap length same))
 
-pub overflow_sub-result : goal.overflow_sub-result
-overflow_sub-result c =
+pub returns-then-field-tag : goal.returns-then-field-tag
+returns-then-field-tag c =
     let a = c.args in
-    let l = c.loop-at in
-    (next_inside a.e.now _ l.at _ (part_laws.part-rest a.e.now l.at) c.next_field-next.ensures c.if-next-eq0.false).0
+    let l = c.loop-field in
+    found a.tag a.start a.e.now l.at (seen c.in-Some.field) _ _ l.invariant.0 c.in-Some.ensures.steps.0 c.if-field-tag.true
 
-pub overflow_cast-result : goal.overflow_cast-result
-overflow_cast-result c =
+pub loop-field-preserved : goal.loop-field-preserved
+loop-field-preserved c =
     let a = c.args in
-    let l = c.loop-at in
-    record { fits = omega (arith, c.requires, next_inside a.e.now _ l.at _ (part_laws.part-rest a.e.now l.at) c.next_field-next.ensures c.if-next-eq0.false) }
-
-pub returns-then-read16-tag : goal.returns-then-read16-tag
-returns-then-read16-tag c =
-    let a = c.args in
-    let l = c.loop-at in
-    found a.tag a.start a.e.now l.at _ _ l.invariant (part_laws.part-rest a.e.now l.at) c.next_field-next.ensures c.if-next-eq0.false
-    (rw c.read16.ensures at c.if-read16-tag.true)
-
-pub overflow_add-at : goal.overflow_add-at
-overflow_add-at c =
-    let a = c.args in
-    let l = c.loop-at in
-    omega (arith, next_inside a.e.now _ l.at _ (part_laws.part-rest a.e.now l.at) c.next_field-next.ensures c.if-next-eq0.false)
-
-pub loop-at-smaller : goal.loop-at-smaller
-loop-at-smaller c =
-    let a = c.args in
-    let l = c.loop-at in
-    omega (arith, next_inside a.e.now _ l.at _ (part_laws.part-rest a.e.now l.at) c.next_field-next.ensures c.if-next-eq0.false)
-
-pub loop-at-preserved : goal.loop-at-preserved
-loop-at-preserved c =
-    let a = c.args in
-    let l = c.loop-at in
-    not_this a.tag a.start a.e.now l.at _ _ l.invariant (part_laws.part-rest a.e.now l.at) c.next_field-next.ensures c.if-next-eq0.false
-    (rw c.read16.ensures at c.if-read16-tag.false)
+    let l = c.loop-field in
+    let s = c.in-Some.ensures.steps in
+    (not_this a.tag a.start a.e.now l.at (seen c.in-Some.field) _ _ l.invariant.0 s.0 c.if-field-tag.false, omega (arith, s.2, l.invariant.1))
 
 pub returns : goal.returns
 returns c =
     let a = c.args in
-    let l = c.loop-at in
-    walking_end a.tag a.start a.e.now l.at c.loop-at-test.false l.invariant
+    walking_end a.tag a.start a.e.now c.loop-field.at _ c.in-None.ensures.steps.0 c.loop-field.invariant.0

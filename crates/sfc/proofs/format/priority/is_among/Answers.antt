@@ -1,14 +1,20 @@
 -- `sfc::format::priority::is_among` meets its contract. The loop's invariant: whether x is one of the numbers from i on. Assumes nothing.
-use mathlib.Core.Path.{◌≡◌}
-use native.Mathlib.Omega.{arith}
-use Rattle.sfc.proofs.format.ListLaws.{among_start, among-turn}
+use Rattle.std.proofs.Common.{◌∙◌, sym, arith}
+use Rattle.sfc.proofs.format.ListLaws.{looking_start, looking_end, found_here, other_here}
 use Rattle.sfc.proofs.format.priority.is_among.Goals as goal
 
 pub loop-i-init : goal.loop-i-init
-loop-i-init c = let a = c.args in (omega arith, among_start a.list.now a.x)
+loop-i-init g c = looking_start _ _ _
+
+pub returns-then-number-x : goal.returns-then-number-x
+returns-then-number-x g c =
+    let l = c.loop-i in
+    found_here _ _ _ l.i (omega (arith, c.loop-i-test.true, c.count-i-end.ensures)) l.invariant (sym c.number.ensures ∙ c.if-number-x.true)
 
 pub loop-i-preserved : goal.loop-i-preserved
-loop-i-preserved c = let a = c.args in let l = c.loop-i in (omega arith, among-turn a.list.now a.x l.i l.found c.loop-i-test.true l.invariant.0 l.invariant.1)
+loop-i-preserved g c =
+    let l = c.loop-i in
+    other_here _ _ _ l.i (omega (arith, c.loop-i-test.true, c.count-i-end.ensures)) l.invariant (λ e. c.if-number-x.false (c.number.ensures ∙ e))
 
 pub returns : goal.returns
-returns c = let l = c.loop-i in let e : l.i ≡ 0 = omega arith in rw e at l.invariant.1
+returns g c = let l = c.loop-i in looking_end _ _ _ l.i (omega (arith, c.loop-i-test.false, c.count-i-end.ensures)) l.invariant

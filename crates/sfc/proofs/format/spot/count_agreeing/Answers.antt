@@ -1,34 +1,22 @@
--- `sfc::format::spot::count_agreeing` meets its contract. The loop's invariant: so many of the wanted bytes from i on stand before the
--- first that does not. Assumes nothing.
-use Prim.Native.Nat.{◌+◌, ◌-◌}
-use mathlib.Core.Path.{◌≡◌, sym, ◌∙◌}
-use native.Mathlib.Omega.{arith}
-use lib.ListN.{drop}
-use Rattle.sfc.specs.format.Spot.{agreeing}
-use Rattle.sfc.proofs.format.SpotLaws.{agreeing_start, agreeing_more, agreeing_ends}
+-- `sfc::format::spot::count_agreeing` meets its contract: the wanted bytes beside their places, as far as they stand. Assumes nothing.
+use Rattle.std.proofs.Common.{ℕ, ◌+◌, ◌∙◌, eqb, get_or, rules, tests, arith, length}
+use Rattle.std.proofs.lemmas.Iterator.{YieldsList-from_slice, YieldsList-from_range, YieldsList-from_zip}
+use Rattle.std.proofs.lemmas.Iterator.Consumers.{count_from_yields_List, YieldsList-at}
+use Rattle.std.proofs.lemmas.Iterator.Search.{YieldsList-from_take_while}
+use Rattle.std.proofs.lemmas.List.Folds.{length-prefix_len}
+use Rattle.std.specs.List.{zip, range_with_len}
+use Rattle.sfc.proofs.format.SpotLaws.{agreeing-zip}
 use Rattle.sfc.proofs.format.spot.count_agreeing.Goals as goal
-
-pub loop-i-init : goal.loop-i-init
-loop-i-init c = let a = c.args in (omega arith, agreeing_start a.c.now a.at a.wanted.now, omega arith)
-
-pub loop-i-preserved-then-byte_at-wanted : goal.loop-i-preserved-then-byte_at-wanted
-loop-i-preserved-then-byte_at-wanted c =
-    let a = c.args in
-    let l = c.loop-i in
-    let t : l.count + 1 ≡ agreeing a.c.now (a.at + (l.i - 1)) (drop (l.i - 1) a.wanted.now) =
-    agreeing_more a.c.now a.wanted.now a.at l.i c.loop-i-test.true l.invariant.0 l.count (sym c.byte_at.ensures ∙ c.if-byte_at-wanted.true) l.invariant.1 in
-    (omega arith, t, omega (arith, l.invariant.2))
-
-pub loop-i-preserved : goal.loop-i-preserved
-loop-i-preserved c =
-    let a = c.args in
-    let l = c.loop-i in
-    (omega arith, agreeing_ends a.c.now a.wanted.now a.at l.i c.loop-i-test.true l.invariant.0 (λ e. c.if-byte_at-wanted.false (c.byte_at.ensures ∙ e)), omega (arith, l.invariant.0))
 
 pub returns : goal.returns
 returns c =
-    let l = c.loop-i in
     let a = c.args in
-    let e : l.i ≡ 0 = omega arith in
-    let f : a.at + 0 ≡ a.at = omega arith in
-    rw (e, f) at l.invariant.1
+    let test = λ (p : ℕ × ℕ). eqb (get_or a.c.now p.0 0) p.1 in
+    let pairs = zip (range_with_len a.at (length a.wanted.now)) a.wanted.now in
+    let places = YieldsList-from_range a.at (a.at + length a.wanted.now) (length a.wanted.now) c.zip.ensures.first (omega arith) in
+    let bytes = YieldsList-from_slice a.wanted.now c.zip.ensures.second.0 in
+    count_from_yields_List _ _ c.count.ensures.ran
+    (YieldsList-from_take_while _ test (YieldsList-at c.take_while.ensures.source (YieldsList-from_zip places bytes)) c.take_while.ensures.closure c.take_while.ensures.done
+    (λ x b q k. search (rules, tests)))
+    ∙ length-prefix_len test pairs
+    ∙ agreeing-zip a.c.now a.at a.wanted.now

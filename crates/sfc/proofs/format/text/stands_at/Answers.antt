@@ -1,24 +1,14 @@
--- `sfc::format::text::stands_at` meets its contract. The loop's invariant: the wanted bytes from i on stand where they should. Assumes nothing.
-use Prim.Native.Nat.{◌+◌}
-use mathlib.Core.Path.{◌≡◌}
-use native.Mathlib.Omega.{arith}
-use Rattle.sfc.proofs.format.TextLaws.{stands_start, stands_turn}
+-- `sfc::format::text::stands_at` meets its contract: the wanted bytes beside their places, each compared. Assumes nothing.
+use Rattle.std.proofs.Common.{ℕ, ◌+◌, ◌∙◌, eqb, get_or, rules, tests, arith, length}
+use Rattle.std.proofs.lemmas.Iterator.{YieldsList-from_slice, YieldsList-from_range, YieldsList-from_zip}
+use Rattle.std.proofs.lemmas.Iterator.Search.{all_from_yields_List}
+use Rattle.sfc.proofs.format.TextLaws.{stands-zip}
 use Rattle.sfc.proofs.format.text.stands_at.Goals as goal
-
-pub loop-i-init : goal.loop-i-init
-loop-i-init c = let a = c.args in (omega arith, stands_start a.s.now a.at a.wanted.now)
-
-pub loop-i-preserved : goal.loop-i-preserved
-loop-i-preserved c =
-    let a = c.args in
-    let l = c.loop-i in
-    let t = stands_turn a.s.now a.wanted.now a.at l.i l.same c.loop-i-test.true l.invariant.0 l.invariant.1 in
-    (omega arith, rw c.byte_at.ensures t)
 
 pub returns : goal.returns
 returns c =
-    let l = c.loop-i in
     let a = c.args in
-    let e : l.i ≡ 0 = omega arith in
-    let f : a.at + 0 ≡ a.at = omega arith in
-    rw (e, f) at l.invariant.1
+    let places = YieldsList-from_range a.at (a.at + length a.wanted.now) (length a.wanted.now) c.zip.ensures.first (omega arith) in
+    let bytes = YieldsList-from_slice a.wanted.now c.zip.ensures.second.0 in
+    all_from_yields_List (λ (p : ℕ × ℕ). eqb (get_or a.s.now p.0 0) p.1) c.all.new.self _ _ c.all.ensures.ran (YieldsList-from_zip places bytes) (λ x b q k. search (rules, tests))
+    ∙ stands-zip a.s.now a.at a.wanted.now

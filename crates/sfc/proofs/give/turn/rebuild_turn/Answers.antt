@@ -1,6 +1,6 @@
 -- `sfc::give::turn::rebuild_turn` meets its contract, by the three answers of the code's call. Assumes nothing.
 use Prim.Native.Nat.{◌+◌, ◌/◌, ◌≤◌, min}
-use mathlib.Core.Path.{sym, ap, ◌∙◌}
+use mathlib.Core.Path.{refl, sym, ap, ◌∙◌}
 use native.Mathlib.Omega.{arith}
 use Rattle.sfc.proofs.give.RebuildLaws.{is_done}
 use Rattle.sfc.proofs.give.TurnLaws.{right_columns, left_most, turn-wrong, turn-other, turn_done_lem, turn-few, turn_shaped}
@@ -38,26 +38,26 @@ overflow_add-result c =
     let fits : a.finished.0 + c.least-count.result ≤ a.h.s / 2 = omega (arith, r.beside.most, c.least-count.ensures.2, c.columns_left-left.ensures, left_most a.h.n a.h.s a.marks.now a.finished.0) in
     record { fits = omega (arith, fits, r.right.shape.s_most) }
 
-pub returns-in-Done : goal.returns-in-Done
-returns-in-Done c =
+pub returns-in-Ok : goal.returns-in-Ok
+returns-in-Ok c =
     let a = c.args in
     let w = sym c.is_columns_wrong.ensures ∙ c.if-is_columns_wrong.false in
     let r = right_columns a.h.size a.h.n a.h.m a.h.s a.store.now a.marks.now a.scratch.now a.finished.0 w in
     let fits : a.finished.0 + c.least-count.result ≤ a.h.s / 2 = omega (arith, r.beside.most, c.least-count.ensures.2, c.columns_left-left.ensures, left_most a.h.n a.h.s a.marks.now a.finished.0) in
-    turn_done_lem a.h a.store.now a.marks.now a.scratch.now a.numbers.now a.finished.0 a.budget w c.if-numbers-ne-ELEMENTS.false _ c.least-count.result fits (c.least-count.ensures.0 ∙ ap (min a.budget) c.columns_left-left.ensures) c.rebuild-rebuilt.ensures c.in-Done.is
+    turn_done_lem a.h a.store.now a.marks.now a.scratch.now a.numbers.now a.finished.0 a.budget w c.if-numbers-ne-ELEMENTS.false _ c.least-count.result fits (c.least-count.ensures.0 ∙ ap (min a.budget) c.columns_left-left.ensures) c.rebuild.ensures c.in-Ok.is
 
-pub returns-in-TooFew : goal.returns-in-TooFew
-returns-in-TooFew c =
+pub returns-in-Err-TooFew : goal.returns-in-Err-TooFew
+returns-in-Err-TooFew c =
     let a = c.args in
     let w = sym c.is_columns_wrong.ensures ∙ c.if-is_columns_wrong.false in
     let r = right_columns a.h.size a.h.n a.h.m a.h.s a.store.now a.marks.now a.scratch.now a.finished.0 w in
     let fits : a.finished.0 + c.least-count.result ≤ a.h.s / 2 = omega (arith, r.beside.most, c.least-count.ensures.2, c.columns_left-left.ensures, left_most a.h.n a.h.s a.marks.now a.finished.0) in
-    rw c.refused-in-TooFew.ensures (turn-few a.h a.store.now a.marks.now a.scratch.now a.numbers.now a.finished.0 a.budget w c.if-numbers-ne-ELEMENTS.false _ c.least-count.result fits (c.least-count.ensures.0 ∙ ap (min a.budget) c.columns_left-left.ensures) c.rebuild-rebuilt.ensures (ap is_done c.in-TooFew.is))
+    rw c.refused-in-Err-TooFew.ensures (turn-few a.h a.store.now a.marks.now a.scratch.now a.numbers.now a.finished.0 a.budget w c.if-numbers-ne-ELEMENTS.false _ c.least-count.result fits (c.least-count.ensures.0 ∙ ap (min a.budget) c.columns_left-left.ensures) c.rebuild.ensures (ap is_done c.in-Err-TooFew.is))
 
-pub returns-in-BadShape : goal.returns-in-BadShape
-returns-in-BadShape c =
+pub returns-in-Err-BadShape : goal.returns-in-Err-BadShape
+returns-in-Err-BadShape c =
     let a = c.args in
     let w = sym c.is_columns_wrong.ensures ∙ c.if-is_columns_wrong.false in
     let r = right_columns a.h.size a.h.n a.h.m a.h.s a.store.now a.marks.now a.scratch.now a.finished.0 w in
     let fits : a.finished.0 + c.least-count.result ≤ a.h.s / 2 = omega (arith, r.beside.most, c.least-count.ensures.2, c.columns_left-left.ensures, left_most a.h.n a.h.s a.marks.now a.finished.0) in
-    absurd (turn_shaped a.h a.store.now a.marks.now a.scratch.now a.numbers.now a.finished.0 a.budget w c.if-numbers-ne-ELEMENTS.false _ c.least-count.result fits (c.least-count.ensures.0 ∙ ap (min a.budget) c.columns_left-left.ensures) c.rebuild-rebuilt.ensures c.in-BadShape.is)
+    absurd (turn_shaped a.h a.store.now a.marks.now a.scratch.now a.numbers.now a.finished.0 a.budget w c.if-numbers-ne-ELEMENTS.false _ c.least-count.result fits (c.least-count.ensures.0 ∙ ap (min a.budget) c.columns_left-left.ensures) (rw c.in-Err-BadShape.field-0-is at c.in-Err-BadShape.ensures) refl)

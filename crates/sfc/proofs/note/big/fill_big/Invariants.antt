@@ -8,6 +8,3 @@ use Rattle.sfc.proofs.note.big.fill_big.Given as goal
 
 abbrev pub invariant-loop-i : goal.invariant-loop-i
 invariant-loop-i l = (l.i ≤ length l.initial.d) × (length l.d ≡ length l.initial.d) × (big_bytes l.i l.rest ++ drop l.i l.d ≡ big_bytes (length l.initial.d) l.v)
-
-abbrev pub decreases-loop-i : goal.decreases-loop-i
-decreases-loop-i l = l.i

@@ -7,19 +7,22 @@ use Rattle.sfc.proofs.note.MissingLaws.{among_right}
 use Rattle.sfc.proofs.note.RangeLaws.{ranges-few}
 use Rattle.sfc.proofs.note.PairLaws.{ranges-wrong, ranges_short, ranges_good}
 use borrow.Author.Rules.{rules}
+use Rattle.sfc.proofs.answer.CheckLaws.{refuses, let_by}
+use borrow.Author.Tests.{ltb-true, ltb-false}
 use Rattle.sfc.proofs.note.ranges.list_ranges.Goals as goal
 
-pub returns-then-is_marks_wrong : goal.returns-then-is_marks_wrong
-returns-then-is_marks_wrong c =
+pub returns-in_err-refuse_if : goal.returns-in_err-refuse_if
+returns-in_err-refuse_if c =
     let a = c.args in
-    ranges-wrong a.h a.marks.now _ (sym c.is_marks_wrong.ensures ∙ c.if-is_marks_wrong.true)
+    let t = refuses c.refuse_if.ensures c.in_err-refuse_if.was c.from_residual.ensures.1 in
+    rw t.1 (ranges-wrong a.h a.marks.now _ (sym c.is_marks_wrong.ensures ∙ t.0))
 
 pub slice_bounds-count_ranges-end : goal.slice_bounds-count_ranges-end
 slice_bounds-count_ranges-end c =
     let a = c.args in
     let w = c.is_marks_wrong in
     let o = c.open_marks-among in
-    let f = c.if-is_marks_wrong.false in
+    let f = let_by _ c.refuse_if.ensures c.in_ok-refuse_if.was in
     let g = among_right a.h a.marks.now _ o.result w.ensures f o.ensures.0 in
     sym g.2
 
@@ -28,28 +31,29 @@ overflow_mul-length c =
     let a = c.args in
     let w = c.is_marks_wrong in
     let o = c.open_marks-among in
-    let f = c.if-is_marks_wrong.false in
+    let f = let_by _ c.refuse_if.ensures c.in_ok-refuse_if.was in
     let g = among_right a.h a.marks.now _ o.result w.ensures f o.ensures.0 in
     let k = c.count_ranges-count in
     let few : k.result ≤ 1024 = omega (arith, g.2, g.1, k.ensures, ranges-few 0 (take o.result a.marks.now)) in
     search rules
 
-pub returns-then-out-length : goal.returns-then-out-length
-returns-then-out-length c =
+pub returns-in_err-refuse_if-2 : goal.returns-in_err-refuse_if-2
+returns-in_err-refuse_if-2 c =
     let a = c.args in
     let w = c.is_marks_wrong in
     let o = c.open_marks-among in
-    let f = c.if-is_marks_wrong.false in
+    let f = let_by _ c.refuse_if.ensures c.in_ok-refuse_if.was in
     let g = among_right a.h a.marks.now _ o.result w.ensures f o.ensures.0 in
     let k = c.count_ranges-count in
-    ranges_short a.h a.marks.now _ (sym w.ensures ∙ f) o.result _ o.ensures.1 k.ensures c.if-out-length.true
+    let t = refuses c.refuse_if-2.ensures c.in_err-refuse_if-2.was c.from_residual-in_err-refuse_if-2.ensures.1 in
+    rw t.1 (ranges_short a.h a.marks.now _ (sym w.ensures ∙ f) o.result _ o.ensures.1 k.ensures (ltb-true _ _ t.0))
 
 pub slice_bounds-put_range_bounds-end : goal.slice_bounds-put_range_bounds-end
 slice_bounds-put_range_bounds-end c =
     let a = c.args in
     let w = c.is_marks_wrong in
     let o = c.open_marks-among in
-    let f = c.if-is_marks_wrong.false in
+    let f = let_by _ c.refuse_if.ensures c.in_ok-refuse_if.was in
     let g = among_right a.h a.marks.now _ o.result w.ensures f o.ensures.0 in
     sym g.2
 
@@ -58,17 +62,17 @@ put_range_bounds-requires c =
     let a = c.args in
     let w = c.is_marks_wrong in
     let o = c.open_marks-among in
-    let f = c.if-is_marks_wrong.false in
+    let f = let_by _ c.refuse_if.ensures c.in_ok-refuse_if.was in
     let g = among_right a.h a.marks.now _ o.result w.ensures f o.ensures.0 in
     let k = c.count_ranges-count in
-    (omega (arith, g.2, g.1), k.ensures, c.if-out-length.false)
+    (omega (arith, g.2, g.1), k.ensures, (ltb-false _ _ (let_by _ c.refuse_if-2.ensures c.in_ok-refuse_if-2.was)))
 
 pub returns : goal.returns
 returns c =
     let a = c.args in
     let w = c.is_marks_wrong in
     let o = c.open_marks-among in
-    let f = c.if-is_marks_wrong.false in
+    let f = let_by _ c.refuse_if.ensures c.in_ok-refuse_if.was in
     let g = among_right a.h a.marks.now _ o.result w.ensures f o.ensures.0 in
     let k = c.count_ranges-count in
-    ranges_good a.h a.marks.now _ (sym w.ensures ∙ f) o.result _ o.ensures.1 k.ensures _ c.if-out-length.false c.put_range_bounds.ensures
+    ranges_good a.h a.marks.now _ (sym w.ensures ∙ f) o.result _ o.ensures.1 k.ensures _ (ltb-false _ _ (let_by _ c.refuse_if-2.ensures c.in_ok-refuse_if-2.was)) c.put_range_bounds.ensures

@@ -1,35 +1,9 @@
--- `sfc::note::ranges::put_range_bounds` meets its contract. The loop's invariant: the ranges of the marks from i on stand as bounds from pair k on. Assumes nothing.
-use native.Mathlib.Omega.{arith}
-use Rattle.sfc.specs.note.Ranges.{bounds}
-use Rattle.sfc.proofs.note.PairLaws.{bound_at, as_bounds, place_start, place_skip, place_room, place-turn, place_end, bounds_placed}
+-- `sfc::note::ranges::put_range_bounds` meets its contract: all bounds, from the output's front on. Assumes nothing.
+use Rattle.sfc.proofs.note.PairLaws.{as_bounds, bounds_placed}
 use Rattle.sfc.proofs.note.ranges.put_range_bounds.Goals as goal
 
-pub loop-i-init : goal.loop-i-init
-loop-i-init c = place_start bounds _ bound_at as_bounds _ _ _
-
-pub loop-i-preserved-then-marks-i-eq-HELD : goal.loop-i-preserved-then-marks-i-eq-HELD
-loop-i-preserved-then-marks-i-eq-HELD c =
-    let l = c.loop-i in
-    place_skip bounds _ bound_at as_bounds _ _ _ l.out l.k l.joined l.i c.loop-i-test.true l.invariant c.if-marks-i-eq-HELD.true
-
-pub put_index_bounds-k-requires : goal.put_index_bounds-k-requires
-put_index_bounds-k-requires c =
-    let l = c.loop-i in
-    let p = c.requires in
-    let r = place_room bounds _ bound_at as_bounds _ _ _ l.out l.k l.joined l.i c.loop-i-test.true l.invariant c.if-marks-i-eq-HELD.false p.1 in
-    (omega (arith, r.0, p.2, l.invariant.long), λ j. omega (arith, r.1 j, p.2, l.invariant.long), r.2)
-
-pub loop-i-preserved : goal.loop-i-preserved
-loop-i-preserved c =
-    let l = c.loop-i in
-    let x = c.put_index_bounds-k in
-    place-turn bounds _ bound_at as_bounds _ _ _ l.out l.k l.joined l.i c.loop-i-test.true l.invariant c.if-marks-i-eq-HELD.false _ x.result x.auto.out x.ensures
-
-pub shape_of-out : goal.shape_of-out
-shape_of-out c = c.loop-i.invariant.long
+pub put_ranges-requires : goal.put_ranges-requires
+put_ranges-requires c = record { laid = as_bounds; room = c.requires }
 
 pub returns : goal.returns
-returns c =
-    let l = c.loop-i in
-    let p = c.requires in
-    bounds_placed _ _ _ l.out p.1 (place_end bounds bound_at _ _ _ l.out l.k l.joined l.i (omega arith) p.1 l.invariant)
+returns c = bounds_placed _ _ _ _ c.requires.1 c.put_ranges.ensures.after

@@ -9,6 +9,3 @@ use Rattle.sfc.proofs.note.resend.is_maximal.Given as goal
 
 abbrev pub invariant-loop-k : goal.invariant-loop-k
 invariant-loop-k l = (l.k ≤ l.count) × ((l.apart && apart_from l.least (pairs_from l.note (23 + 8 * l.k) (l.count - l.k))) ≡ maximal (pairs_from l.note 23 l.count))
-
-abbrev pub decreases-loop-k : goal.decreases-loop-k
-decreases-loop-k l = l.count - l.k

@@ -11,18 +11,18 @@ put_big-requires-2 c =
     let a = c.args in
     let p = c.requires in
     let u : length a.uuid ≡ 16 = search rules in
-    omega (arith, start_long a.out.now _ _ a.uuid a.count p.0 u c.put_big.ensures c.copy.ensures)
+    omega (arith, start_long a.out.now _ _ a.uuid a.count p.0 u c.put_big.ensures c.copy_from_slice.ensures.after)
 
 pub shape_of-out : goal.shape_of-out
 shape_of-out c =
     let a = c.args in
     let p = c.requires in
     let u : length a.uuid ≡ 16 = search rules in
-    c.put_big-2.auto.out ∙ start_long a.out.now _ _ a.uuid a.count p.0 u c.put_big.ensures c.copy.ensures
+    c.put_big-2.auto.out ∙ start_long a.out.now _ _ a.uuid a.count p.0 u c.put_big.ensures c.copy_from_slice.ensures.after
 
 pub returns : goal.returns
 returns c =
     let a = c.args in
     let p = c.requires in
     let u : length a.uuid ≡ 16 = search rules in
-    start_made a.out.now _ _ a.uuid a.count p.0 u c.put_big.ensures c.copy.ensures _ c.put_big-2.ensures
+    start_made a.out.now _ _ a.uuid a.count p.0 u c.put_big.ensures c.copy_from_slice.ensures.after _ c.put_big-2.ensures

@@ -1,17 +1,28 @@
 -- `sfc::note::resend::read_note` meets its contract: malformed, or no room, or its UUID and pairs. Assumes nothing.
 use mathlib.Core.Path.{sym, ◌∙◌}
 use native.Mathlib.Omega.{arith}
+use borrow.Author.Tests.{ltb-true, ltb-false}
+use Rattle.sfc.proofs.answer.CheckLaws.{refuses, let_by}
 use Rattle.sfc.proofs.note.NoteLaws.{note_long, read_bad, read_short, read_good}
 use Rattle.sfc.proofs.note.resend.read_note.Goals as goal
 
-pub returns-then-is_malformed : goal.returns-then-is_malformed
-returns-then-is_malformed c = read_bad c.args.note.now _ _ (sym c.is_malformed.ensures ∙ c.if-is_malformed.true) c.refused_note.ensures
+pub returns-in_err-refuse_if : goal.returns-in_err-refuse_if
+returns-in_err-refuse_if c =
+    let t = refuses c.refuse_if.ensures c.in_err-refuse_if.was c.from_residual.ensures.1 in
+    read_bad c.args.note.now _ _ (sym c.is_malformed.ensures ∙ t.0) t.1
 
-pub returns-then-out-count : goal.returns-then-out-count
-returns-then-out-count c = read_short c.args.note.now _ _ _ (sym c.is_malformed.ensures ∙ c.if-is_malformed.false) c.read_big-count.ensures c.if-out-count.true c.refused_note-then-out-count.ensures
+pub returns-in_err-refuse_if-2 : goal.returns-in_err-refuse_if-2
+returns-in_err-refuse_if-2 c =
+    let f = let_by _ c.refuse_if.ensures c.in_ok-refuse_if.was in
+    let t = refuses c.refuse_if-2.ensures c.in_err-refuse_if-2.was c.from_residual-in_err-refuse_if-2.ensures.1 in
+    read_short c.args.note.now _ _ _ (sym c.is_malformed.ensures ∙ f) c.read_big-count.ensures (ltb-true _ _ t.0) t.1
 
-pub uuid_of-uuid-requires : goal.uuid_of-uuid-requires
-uuid_of-uuid-requires c = omega (arith, note_long _ (sym c.is_malformed.ensures ∙ c.if-is_malformed.false))
+pub uuid_of-requires : goal.uuid_of-requires
+uuid_of-requires c =
+    omega (arith, note_long _ (sym c.is_malformed.ensures ∙ let_by _ c.refuse_if.ensures c.in_ok-refuse_if.was))
 
 pub returns : goal.returns
-returns c = read_good c.args.note.now _ _ _ _ (sym c.is_malformed.ensures ∙ c.if-is_malformed.false) c.read_big-count.ensures c.if-out-count.false c.uuid_of-uuid.ensures c.put_bounds.ensures
+returns c =
+    let f = let_by _ c.refuse_if.ensures c.in_ok-refuse_if.was in
+    let g = let_by _ c.refuse_if-2.ensures c.in_ok-refuse_if-2.was in
+    read_good c.args.note.now _ _ _ _ (sym c.is_malformed.ensures ∙ f) c.read_big-count.ensures (ltb-false _ _ g) c.uuid_of.ensures c.put_bounds.ensures

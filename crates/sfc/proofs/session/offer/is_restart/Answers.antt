@@ -1,5 +1,7 @@
 -- `sfc::session::offer::is_restart` computes its definition, by the three verdicts. Assumes nothing.
+use mathlib.Core.Path.{◌∙◌}
 use Rattle.sfc.specs.session.Offer.{restarts}
+use Rattle.sfc.proofs.answer.Numbered.{is_conflict}
 use Rattle.sfc.proofs.session.offer.is_restart.Goals as goal
 
 pub returns-in-Fresh : goal.returns-in-Fresh
@@ -12,4 +14,4 @@ returns-in-Repeat c = rw c.in-Repeat.is
 
 pub returns-in-Refused : goal.returns-in-Refused
 unfolding restarts
-returns-in-Refused c = rw (c.in-Refused.is, c.number_of.ensures)
+returns-in-Refused c = rw c.in-Refused.is (c.eq.ensures ∙ is_conflict c.in-Refused.reason)

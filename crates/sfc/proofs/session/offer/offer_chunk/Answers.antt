@@ -14,14 +14,14 @@ returns-then-is_full c = rw c.refused-then-is_full.ensures (full_refused c.args.
 
 pub with_refusal-requires : goal.with_refusal-requires
 with_refusal-requires c =
-    let k = chunk-number c.args.h (session_of c.args.store.now c.args.marks.now c.args.tallies) c.args.chunk.now _ (sym c.check_all-checked.ensures ∙ c.in-Refused.is) in
+    let k = chunk-number c.args.h (session_of c.args.store.now c.args.marks.now c.args.tallies) c.args.chunk.now _ (sym c.check_all-checked.ensures ∙ c.in-Err.is) in
     (room_left c.args.tallies (sym c.is_full.ensures ∙ c.if-is_full.false), k.0, omega arith)
 
 pub offer_whole-requires : goal.offer_whole-requires
 offer_whole-requires c =
-    record { lent = (sym c.is_lent_wrong.ensures ∙ c.if-is_lent_wrong.false); room = (sym c.is_full.ensures ∙ c.if-is_full.false); whole = sym c.check_all-checked.ensures ∙ c.in-Good.is }
+    record { lent = (sym c.is_lent_wrong.ensures ∙ c.if-is_lent_wrong.false); room = (sym c.is_full.ensures ∙ c.if-is_full.false); whole = sym c.check_all-checked.ensures ∙ c.in-Ok.is }
 
-pub returns-in-Refused : goal.returns-in-Refused
-returns-in-Refused c =
-    rw c.refused-in-Refused.ensures
-    (chunk_refused c.args.h (session_of c.args.store.now c.args.marks.now c.args.tallies) c.args.chunk.now (sym c.is_lent_wrong.ensures ∙ c.if-is_lent_wrong.false) (sym c.is_full.ensures ∙ c.if-is_full.false) _ (sym c.check_all-checked.ensures ∙ c.in-Refused.is) _ c.with_refusal.ensures)
+pub returns-in-Err : goal.returns-in-Err
+returns-in-Err c =
+    rw c.refused-in-Err.ensures
+    (chunk_refused c.args.h (session_of c.args.store.now c.args.marks.now c.args.tallies) c.args.chunk.now (sym c.is_lent_wrong.ensures ∙ c.if-is_lent_wrong.false) (sym c.is_full.ensures ∙ c.if-is_full.false) _ (sym c.check_all-checked.ensures ∙ c.in-Err.is) _ c.with_refusal.ensures)

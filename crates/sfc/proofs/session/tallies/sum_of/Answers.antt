@@ -1,38 +1,18 @@
--- `sfc::session::tallies::sum_of` meets its contract. The loop's invariant: the sum of the counts from `left` on, each below 2^32. Assumes nothing.
-use Prim.Native.Nat.{◌-◌}
-use mathlib.Core.Path.{◌≡◌}
-use native.Mathlib.Omega.{arith}
-use mir.Val.{Fits}
-use mir.Syntax.{w32}
-use lib.ListN.{length, get_or}
-use Rattle.sfc.proofs.session.TallyLaws.{sum_start, sum-turn}
-use borrow.Author.Rules.{rules}
+-- `sfc::session::tallies::sum_of` meets its contract: a sum, in the words of the library, of 13 numbers below 2^32. Assumes nothing.
+use Rattle.std.proofs.Common.{◌≡◌, ◌≤◌, ◌∙◌, rules, arith, length}
+use Rattle.std.proofs.iter.runs.Sources.{sums}
+use Rattle.std.proofs.lemmas.List.Sums.{sum_by-le}
+use Rattle.std.specs.List.{sum as std_sum, All}
+use Rattle.sfc.proofs.session.TallyLaws.{summed}
 use Rattle.sfc.proofs.session.tallies.sum_of.Goals as goal
 
-pub loop-left-init : goal.loop-left-init
-loop-left-init c =
-    let a = c.args in
-    let l : length a.counts ≡ 13 = search rules in
-    (omega arith, rw l at (sum_start a.counts), omega arith)
-
-pub overflow_add-total : goal.overflow_add-total
-overflow_add-total c =
-    let a = c.args in
-    let l = c.loop-left in
-    let f : Fits w32 (get_or a.counts (l.left - 1) 0) = search rules in
-    omega (arith, f)
-
-pub loop-left-preserved : goal.loop-left-preserved
-loop-left-preserved c =
-    let a = c.args in
-    let l = c.loop-left in
-    let n : length a.counts ≡ 13 = search rules in
-    let t = sum-turn a.counts l.left l.total c.loop-left-test.true (omega arith) l.invariant.1 in
-    let f : Fits w32 (get_or a.counts (l.left - 1) 0) = search rules in
-    (omega arith, t, omega (arith, f))
+pub sum-requires-clause-fits : goal.sum-requires-clause-fits
+sum-requires-clause-fits c = search (rules, sums)
 
 pub returns : goal.returns
 returns c =
-    let l = c.loop-left in
-    let e : l.left ≡ 0 = omega arith in
-    (rw e at l.invariant.1, omega arith)
+    let a = c.args in
+    let e : c.sum.result ≡ std_sum a.counts = search rules in
+    let n : length a.counts ≡ 13 = search rules in
+    let f : All (λ (x : _). x ≤ 4294967295) a.counts = search rules in
+    (e ∙ summed a.counts, omega (arith, e, n, sum_by-le (λ x. x) 4294967295 a.counts f))

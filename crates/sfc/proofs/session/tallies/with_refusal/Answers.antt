@@ -7,7 +7,7 @@ use Rattle.sfc.proofs.session.TallyLaws.{in_sum, counts-one}
 use Rattle.sfc.proofs.session.tallies.with_refusal.Goals as goal
 
 pub overflow_add-next : goal.overflow_add-next
-overflow_add-next c = let t = c.args.t in omega (arith, in_sum t.refused (c.number_of.result - 30), c.requires.0)
+overflow_add-next c = let t = c.args.t in omega (arith, in_sum t.refused (c.from.result - 30), c.requires.0)
 
 pub returns : goal.returns
-returns c = rw c.number_of.ensures (sym (counts-one c.args.t (number_of c.args.reason) c.requires.1 c.requires.2))
+returns c = rw c.from.ensures (sym (counts-one c.args.t (number_of c.args.reason) c.requires.1 c.requires.2))

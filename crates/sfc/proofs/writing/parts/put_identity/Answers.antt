@@ -11,4 +11,4 @@ returns c =
     let asked = c.requires in
     let u : length a.uuid ≡ 16 = search rules in
     let g : length a.digest ≡ 32 = search rules in
-    identity_made a.uuid a.name.now a.digest a.d.now _ _ _ _ _ a.size a.format asked.0 u g asked.1 c.copy.ensures c.write64.ensures.1 c.write16.ensures.1 c.put_padded.ensures c.copy-2.ensures
+    identity_made a.uuid a.name.now a.digest a.d.now _ _ _ _ _ a.size a.format asked.0 u g asked.1 c.copy_from_slice.ensures.after c.write64.ensures.1 c.write16.ensures.1 c.put_padded.ensures c.copy_from_slice-2.ensures.after

@@ -6,4 +6,4 @@ pub returns : goal.returns
 returns c =
     let a = c.args in
     let asked = c.requires in
-    preamble-made a.d.now _ _ _ (asked) c.copy.ensures c.write16.ensures.1 c.write16-2.ensures.1
+    preamble-made a.d.now _ _ _ (asked) c.copy_from_slice.ensures.after c.write16.ensures.1 c.write16-2.ensures.1

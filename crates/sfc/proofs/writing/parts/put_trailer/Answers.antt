@@ -10,4 +10,4 @@ returns c =
     let a = c.args in
     let asked = c.requires in
     let g : length a.digest ≡ 32 = search rules in
-    trailer-made a.digest a.d.now _ _ _ _ a.time (asked) g c.copy.ensures c.copy-2.ensures c.write64.ensures.1 c.clear8.ensures
+    trailer-made a.digest a.d.now _ _ _ _ a.time (asked) g c.copy_from_slice.ensures.after c.copy_from_slice-2.ensures.after c.write64.ensures.1 c.clear.ensures
