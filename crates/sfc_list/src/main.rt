@@ -1,10 +1,10 @@
 // The program that lists: bytes come in by standard input, and lines of text go out.
 #![tactic(auto)]
 
-ghost use Rattle.std.specs.Prelude.{◌≡◌, ◌≤◌, length, take};
+ghost use Rattle.std.specs.Prelude.{◌≡◌, ◌≤◌, IfOk, length, take};
 
-use sfc::Written;
-use sfc_listing::listing;
+use sfc::Reason;
+use sfc_listing::{Desk, listing};
 use std::io;
 use std::io::Read;
 
@@ -15,76 +15,53 @@ fn file_room() -> [u8; FILE_ROOM] {
     [0u8; FILE_ROOM]
 }
 
-// How many bytes were read, and whether a read failed before the input's end.
-#[derive(Drop)]
-struct Input {
-    length: usize,
-    failed: bool,
-}
-
-// Reads to the input's end, or until the room is full. A failed read counts no byte, as the end does, so that its answer is
-// looked at again.
-fn read_input(rt: &impl io::Input, room: &mut [u8]) -> Input
-    ensures { (result.length ≤ length room.new) × (result.length ≡ length (take result.length room.new)) }
+// How many bytes were read, to the input's end or until the room is full. Each turn goes on by as many bytes as came, and std's
+// `read_exact` says nothing of how many came. sfc_probe has such a function: the programs share no crate of their own.
+fn read_input(rt: &impl io::Input, room: &mut [u8]) -> io::Result<usize>
+    ensures { IfOk result (λ count. (count ≤ length room.new) × (count ≡ length (take count room.new))) }
 {
     let mut reader = rt.reader();
     let mut length = 0;
     while length < room.len() {
-        let got = reader.read(&mut room[length..]);
-        let failed = got.is_err();
-        let count = got.unwrap_or(0);
+        let count = reader.read(&mut room[length..])?;
         if count == 0 {
-            return Input { length, failed };
+            return Ok(length);
         }
         length += count;
     }
-    Input {
-        length,
-        failed: false,
-    }
+    Ok(length)
 }
 
 // The text at the output's front. Memory as long as it is lent here is never refused.
-fn print(rt: &(impl Print + Eprint), written: Written, out: &[u8]) -> io::Result<()> {
-    match written {
-        Written::Bytes(length) => {
-            let end = little::within8(length, out);
-            if rt.write_all(&out[..end]).is_err() {
-                eprintln!(rt; "sfc_list: the listing could not be written")?;
-            }
+fn print(rt: &(impl Print + Eprint), listed: Result<usize, Reason>, out: &[u8]) -> io::Result<()> {
+    if let Ok(length) = listed {
+        let end = length.min(out.len());
+        if rt.write_all(&out[..end]).is_err() {
+            eprintln!(rt; "sfc_list: the listing could not be written")?;
         }
-        Written::Refused(_) => {}
     }
     Ok(())
 }
 
 fn list(rt: &(impl Print + Eprint), file: &[u8]) -> io::Result<()> {
-    let mut store = [0u8; sfc_listing::STORE];
-    let mut marks = [0u8; sfc_listing::MARKS];
-    let mut scratch = [0u8; sfc_listing::SCRATCH];
-    let mut numbers = [0u16; sfc_listing::NUMBERS];
-    let mut content = [0u8; sfc_listing::CONTENT];
-    let mut bounds = [0u32; sfc_listing::BOUNDS];
+    let mut desk = Desk {
+        store: &mut [0u8; sfc_listing::STORE],
+        marks: &mut [0u8; sfc_listing::MARKS],
+        scratch: &mut [0u8; sfc_listing::SCRATCH],
+        numbers: &mut [0u16; sfc_listing::NUMBERS],
+        content: &mut [0u8; sfc_listing::CONTENT],
+        bounds: &mut [0u32; sfc_listing::BOUNDS],
+    };
     let mut out = [0u8; sfc_listing::TEXT];
-    let written = listing(
-        file,
-        &mut store,
-        &mut marks,
-        &mut scratch,
-        &mut numbers,
-        &mut content,
-        &mut bounds,
-        &mut out,
-    );
-    print(rt, written, &out)
+    let listed = listing(file, &mut desk, &mut out);
+    print(rt, listed, &out)
 }
 
 // What was not read to its end is not judged.
 fn main(rt: HostRuntime) -> io::Result<()> {
     let mut room = file_room();
-    let input = read_input(&rt, &mut room);
-    if input.failed {
-        return eprintln!(rt; "sfc_list: the input could not be read");
+    match read_input(&rt, &mut room) {
+        Ok(length) => list(&rt, &room[..length]),
+        Err(_) => eprintln!(rt; "sfc_list: the input could not be read"),
     }
-    list(&rt, &room[..input.length])
 }

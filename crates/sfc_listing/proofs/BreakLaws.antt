@@ -1,5 +1,6 @@
 -- What the refused lines say: the number and the place of each refusal, since in a listing no refusal lacks a place; and that there is
 -- none where nothing is refused. Assumes nothing.
+use Rattle.std.specs.Prelude.{Option, Some, None, Ok, Err}
 use Prim.Native.Nat.{ℕ, ◌+◌, ◌*◌, ◌≤◌}
 use mathlib.Core.Path.{◌≡◌, refl, sym, ap, ap₂, ◌∙◌}
 use mathlib.Core.Logic.{inr, ⊎_elim}
@@ -9,7 +10,7 @@ use native.Mathlib.Omega.{arith}
 use lib.Dec.{eqb, lit≤}
 use lib.ListN.{length, length-append, length-replicate, drop, take-append-drop}
 use Rattle.little.specs.Runs.{zeros}
-use Rattle.sfc.specs.answer.Numbers.{Check, number_of}
+use Rattle.sfc.specs.answer.Numbers.{Check, number_of, Checked}
 use Rattle.sfc.specs.answer.Places.{number, place}
 use Rattle.sfc.specs.format.Chunk.{index_of, chunk_checks}
 use Rattle.sfc.specs.session.Tallies.{total, tally_full}
@@ -25,11 +26,7 @@ use Rattle.sfc_listing.specs.ListingTheorems.{is_refused}
 use Rattle.sfc_listing.specs.RefusedLines.{break_text, break_of, breaks_in}
 use Rattle.sfc.specs.declared.format.header.Head.{Head}
 use Rattle.sfc.specs.declared.answer.reason.Reason.{Reason}
-use Rattle.sfc.specs.declared.answer.reason.Checked.{Checked}
-use Rattle.sfc.specs.declared.answer.reason.Checked.TheVariants.{Good, Refused as Wrong}
 use Rattle.sfc.specs.declared.answer.places.BytePlace.{BytePlace}
-use Rattle.sfc.specs.declared.answer.places.Spot.{Spot}
-use Rattle.sfc.specs.declared.answer.places.Spot.TheVariants.{At, Nowhere}
 use Rattle.sfc.specs.declared.session.offer.Verdict.{Verdict}
 use Rattle.sfc.specs.declared.session.offer.Verdict.TheVariants.{Fresh, Repeat, Refused}
 use Rattle.sfc.proofs.Laws.{check_laws, offer_laws}
@@ -40,7 +37,7 @@ use Rattle.sfc_listing.proofs.LastLine.{verdict_texts, refused_texts}
 
 -- ---- no line where nothing is refused
 
-one-taken : (at : ℕ) (v : Verdict) (s : Spot) → ◌≡◌ {A = ℕ} (cond (is_refused v) 1 0) 0 → verdict_line at v s ≡ []
+one-taken : (at : ℕ) (v : Verdict) (s : Option BytePlace) → ◌≡◌ {A = ℕ} (cond (is_refused v) 1 0) 0 → verdict_line at v s ≡ []
 unfolding verdict_line
 one-taken at (Fresh i p) s e = refl
 one-taken at (Repeat i p) s e = refl
@@ -81,20 +78,20 @@ told-joined h b =
 
 -- the verdict of an offer, as a list of checks has it
 abbrev seen : Verdict → Checked
-seen (Fresh i p) = Good
-seen (Repeat i p) = Good
-seen (Refused r) = Wrong r
+seen (Fresh i p) = (Ok tt)
+seen (Repeat i p) = (Ok tt)
+seen (Refused r) = Err r
 
 module _ (h : Head) (x : Session) (c : List ℕ) (lent : session_wrong h x ≡ false) (room : tally_full x.tallies ≡ false) where
   -- past 71 and 43 a refusal has another number
   number_low : (r : Reason) → verdict_of h x c ≡ Refused r → number_of r ≤ 42
   number_low r e =
       let cs : List Check = chunk_checks h c ++ mark_checks h x c in
-      let good : seen (welcomed h x c) ≡ Good = welcome (eqb (mark x (index_of c)) 0) in
-      let t = check_laws.tells seen Refused (welcomed h x c) (λ q. refl) good cs (Wrong r) (ap seen (sym (offer_laws.past_two h x c lent room) ∙ e)) in
+      let good : seen (welcomed h x c) ≡ Ok tt = welcome (eqb (mark x (index_of c)) 0) in
+      let t = check_laws.tells seen Refused (welcomed h x c) (λ q. refl) good cs (Err r) (ap seen (sym (offer_laws.past_two h x c lent room) ∙ e)) in
       check_laws.number_in (λ (k : ℕ). k ≤ 42) cs r (lit≤ tt, (lit≤ tt, (lit≤ tt, (lit≤ tt, (lit≤ tt, (lit≤ tt, (lit≤ tt, (lit≤ tt, (lit≤ tt, (lit≤ tt, (lit≤ tt, (lit≤ tt, (lit≤ tt, (lit≤ tt, tt)))))))))))))) t
     where
-      welcome : (b : Bool) → seen (cond b (Fresh (number (index_of c)) (place (index_of c * h.s))) (Repeat (number (index_of c)) (place (index_of c * h.s)))) ≡ Good
+      welcome : (b : Bool) → seen (cond b (Fresh (number (index_of c)) (place (index_of c * h.s))) (Repeat (number (index_of c)) (place (index_of c * h.s)))) ≡ Ok tt
       welcome true = refl
       welcome false = refl
 
@@ -114,14 +111,14 @@ module _ (h : Head) (x : Session) (c : List ℕ) (lent : session_wrong h x ≡ f
   is_spot = ap (spot_of h c) own.verdict
 
   -- so the offer says where
-  pub has_place : (r : Reason) → verdict_of h x c ≡ Refused r → (p : BytePlace) × (broke_at h x c ≡ At p)
+  pub has_place : (r : Reason) → verdict_of h x c ≡ Refused r → (p : BytePlace) × (broke_at h x c ≡ Some p)
   has_place r e = go (broke_at h x c) refl
     where
-      go : (s : Spot) → broke_at h x c ≡ s → (p : BytePlace) × (broke_at h x c ≡ At p)
-      go (At p) es = (p, es)
-      go Nowhere es =
+      go : (s : Option BytePlace) → broke_at h x c ≡ s → (p : BytePlace) × (broke_at h x c ≡ Some p)
+      go (Some p) es = (p, es)
+      go None es =
           let n = number_low r e in
-          absurd (⊎_elim (λ k. omega arith) (λ k. omega arith) ((place-table.no_place h c r Nowhere (inr (beside, is_verdict ∙ e, is_spot ∙ es))).0 refl))
+          absurd (⊎_elim (λ k. omega arith) (λ k. omega arith) ((place-table.no_place h c r None (inr (beside, is_verdict ∙ e, is_spot ∙ es))).0 refl))
 
   placed : (at : ℕ) → verdict_texts at (verdict_of h x c) (broke_at h x c) ≡ map break_text (break_of at (verdict_of h x c) (broke_at h x c))
   unfolding verdict_texts break_of
@@ -132,7 +129,7 @@ module _ (h : Head) (x : Session) (c : List ℕ) (lent : session_wrong h x ≡ f
       go (Repeat i p) ev = refl
       go (Refused r) ev = rw (has_place r ev).1 refl
 
-  pub one-text : (at : ℕ) (r : Reason) → verdict_of h x c ≡ Refused r → (p : BytePlace) → broke_at h x c ≡ At p
+  pub one-text : (at : ℕ) (r : Reason) → verdict_of h x c ≡ Refused r → (p : BytePlace) → broke_at h x c ≡ Some p
       → verdict_texts at (verdict_of h x c) (broke_at h x c) ≡ broken_text (number_of r) (at + p.0) ∷ []
   unfolding verdict_texts
   one-text at r e p es = rw (es, e)

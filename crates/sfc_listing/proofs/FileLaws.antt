@@ -1,6 +1,7 @@
 -- The listing of a file: refused, or the session of its header; and the call that makes it. Assumes nothing.
+use Rattle.std.specs.Prelude.{Result, Ok, Err}
 use Prim.Native.Nat.{ℕ, ◌+◌, ◌-◌, ◌*◌, ◌<◌, ◌≤◌}
-use mathlib.Core.Path.{◌≡◌, refl, sym, ap, ◌∙◌, subst}
+use mathlib.Core.Path.{◌≡◌, refl, sym, ap, ◌∙◌}
 use mathlib.Core.Bool.{true, false, not}
 use mathlib.Core.List.{List, [], ◌∷◌}
 use native.Mathlib.Omega.{arith}
@@ -12,24 +13,16 @@ use lib.Seq.{length-take-le}
 use Rattle.little.specs.Parts.{part}
 use Rattle.little.proofs.Laws.{test_laws}
 use Rattle.little.specs.Runs.{zeros}
-use Rattle.sfc.specs.answer.Numbers.{verdict, number_of}
-use Rattle.sfc.specs.format.Header.{length_field, region_of, head_of, header_checks, refused_header, accepted_header, read_header}
+use Rattle.sfc.specs.answer.Numbers.{verdict, number_of, Checked}
+use Rattle.sfc.specs.format.Header.{length_field, region_of, head_of, header_checks, read_header, header_verdict}
 use Rattle.sfc_listing.specs.Listing.{between, session_text, refused_text, listing_of, Desk, desk_of, lengths_wrong, desk_wrong, cleared, listed_of, listed}
 use Rattle.sfc_listing.specs.Lines.{Printed}
 use Rattle.sfc_listing.specs.Steps.{accepted_text, Ready}
 use Rattle.sfc.specs.declared.format.header.Head.{Head}
-use Rattle.sfc.specs.declared.format.header.HeaderRead.{HeaderRead}
 use Rattle.sfc.specs.declared.answer.reason.Reason.{Reason}
 use Rattle.sfc.specs.declared.answer.reason.Reason.TheVariants.{Lent, OutputShort}
-use Rattle.sfc.specs.declared.answer.reason.Checked.{Checked}
-use Rattle.sfc.specs.declared.answer.reason.Checked.TheVariants.{Good, Refused}
-use Rattle.sfc.specs.declared.answer.written.Written.TheVariants.{Bytes, Refused as Unwritten}
 use Rattle.sfc.proofs.Laws.{check_laws, lent_laws}
 use Rattle.sfc.specs.session.Right.{RightShape}
-
--- what was printed, under another name
-pub printed_as : (r : ℕ) (before after : List ℕ) {t u : List ℕ} → t ≡ u → Printed r before after t → Printed r before after u
-printed_as r before after e p = subst (Printed r before after) e p
 
 -- ---- the file and its header
 
@@ -41,33 +34,36 @@ module _ (f : List ℕ) where
   abbrev head : Head
   head = head_of (region_of f)
 
-  told : (x : HeaderRead) (v : Checked) → x ≡ read_header f → x.verdict ≡ v → verdict (header_checks f) ≡ v
+  told : (v : Checked) → header_verdict (read_header f) ≡ v → verdict (header_checks f) ≡ v
   unfolding read_header
-  told x v e g =
-      check_laws.tells (λ (y : HeaderRead). y.verdict) refused_header (accepted_header head) (λ q. refl) refl (header_checks f) v (ap (λ (y : HeaderRead). y.verdict) (sym e) ∙ g)
+  told v g = check_laws.tells header_verdict Err (Ok head) (λ q. refl) refl (header_checks f) v g
 
-  pub good_read : verdict (header_checks f) ≡ Good → read_header f ≡ accepted_header head
+  pub good_read : verdict (header_checks f) ≡ Ok tt → read_header f ≡ Ok head
   unfolding read_header
-  good_read g = check_laws.good_all refused_header (header_checks f) (accepted_header head) g
+  good_read g = check_laws.good_all Err (header_checks f) (Ok head) g
 
-  module _ (short : length f ≤ 65536) (x : HeaderRead) (e : x ≡ read_header f) where
-    pub listing_refused : (r : Reason) → x.verdict ≡ Refused r → refused_text (number_of r) ≡ listing_of f
+  module _ (short : length f ≤ 65536) (x : Result Head Reason) (e : x ≡ read_header f) where
+    pub listing_refused : (r : Reason) → x ≡ Err r → refused_text (number_of r) ≡ listing_of f
     unfolding listing_of
     listing_refused r g =
         rw (le-ltb 65536 (length f) short)
-        (sym (check_laws.refused_then (λ (q : Reason). refused_text (number_of q)) (header_checks f) ((ltb 32768 ((head.n + head.m) * head.s), 15) ∷ []) (session_text head (length_field f + 12) (between f)) r (told x (Refused r) e g)))
+        (sym (check_laws.refused_then (λ (q : Reason). refused_text (number_of q)) (header_checks f) ((ltb 32768 ((head.n + head.m) * head.s), 15) ∷ []) (session_text head (length_field f + 12) (between f)) r (told (Err r) (ap header_verdict (sym e ∙ g)))))
 
-    accepted_text_lem : x.verdict ≡ Good → accepted_text head f ≡ listing_of f
-    unfolding listing_of accepted_text
-    accepted_text_lem g =
-        rw (le-ltb 65536 (length f) short)
-        (sym (check_laws.good_then (λ (q : Reason). refused_text (number_of q)) (header_checks f) ((ltb 32768 ((head.n + head.m) * head.s), 15) ∷ []) (session_text head (length_field f + 12) (between f)) (told x Good e g)))
+    module _ (h : Head) (g : x ≡ Ok h) where
+      good : verdict (header_checks f) ≡ Ok tt
+      good = told (Ok tt) (ap header_verdict (sym e ∙ g))
 
-    pub listing_accepted : x.verdict ≡ Good → (read_header f ≡ accepted_header x.head) × (accepted_text x.head f ≡ listing_of f)
-    listing_accepted g =
-        let a = good_read (told x Good e g) in
-        let h : x.head ≡ head = ap (λ (y : HeaderRead). y.head) (e ∙ a) in
-        (a ∙ ap accepted_header (sym h), ap (λ (k : Head). accepted_text k f) h ∙ accepted_text_lem g)
+      accepted_text_lem : accepted_text head f ≡ listing_of f
+      unfolding listing_of accepted_text
+      accepted_text_lem =
+          rw (le-ltb 65536 (length f) short)
+          (sym (check_laws.good_then (λ (q : Reason). refused_text (number_of q)) (header_checks f) ((ltb 32768 ((head.n + head.m) * head.s), 15) ∷ []) (session_text head (length_field f + 12) (between f)) good))
+
+      pub listing_accepted : (read_header f ≡ Ok h) × (accepted_text h f ≡ listing_of f)
+      listing_accepted =
+          let q : ◌≡◌ {A = Result Head Reason} (Ok h) (Ok head) = sym g ∙ e ∙ good_read good in
+          let k : h ≡ head = cc in
+          (sym e ∙ g, ap (λ (u : Head). accepted_text u f) k ∙ accepted_text_lem)
 
 -- ---- the desk
 
@@ -103,7 +99,7 @@ long d w =
 abbrev pub width_from : List ℕ → ℕ → ℕ
 width_from f field = length f - 64 - (field + 12)
 
-module _ (h : Head) (f : List ℕ) (e : read_header f ≡ accepted_header h) where
+module _ (h : Head) (f : List ℕ) (e : read_header f ≡ Ok h) where
   shape : RightShape h.size h.n h.m h.s
   shape = lent_laws.right_shape h.size h.n h.m h.s (lent_laws.accepted_shape f h e)
 
@@ -116,7 +112,7 @@ module _ (h : Head) (f : List ℕ) (e : read_header f ≡ accepted_header h) whe
 
   -- region and trailer lie apart
   pub trailer-after : length_field f + 76 ≤ length f
-  trailer-after = ltb-false (length f) (length_field f + 76) (check_laws.passed (header_checks f) (told f (accepted_header h) Good (sym e) refl)).1.1.1.1.0
+  trailer-after = ltb-false (length f) (length_field f + 76) (check_laws.passed (header_checks f) (told f (Ok tt) (ap header_verdict e))).1.1.1.1.0
 
   pub limit_text : 32768 < (h.n + h.m) * h.s → refused_text 15 ≡ accepted_text h f
   unfolding accepted_text
@@ -159,16 +155,16 @@ unfolding cleared
 cleared-same d d' a b c n k l = λ i. desk_of (zeros (a i)) (zeros (b i)) (zeros (c i)) (zeros (n i)) (zeros (k i)) (zeros (l i))
 
 module _ (f : List ℕ) (d : Desk) (out : List ℕ) where
-  pub listed-wrong : desk_wrong d ≡ true → listed_of (Unwritten Lent) d out ≡ listed f d out
+  pub listed-wrong : desk_wrong d ≡ true → listed_of (Err Lent) d out ≡ listed f d out
   unfolding listed
   listed-wrong w = rw w
 
   module _ (w : desk_wrong d ≡ false) where
-    pub listed_short : length out < 65536 → listed_of (Unwritten OutputShort) d out ≡ listed f d out
+    pub listed_short : length out < 65536 → listed_of (Err OutputShort) d out ≡ listed f d out
     unfolding listed
     listed_short h = rw (w, lt-ltb (length out) 65536 h)
 
     pub listed_good : 65536 ≤ length out → (r : ℕ) (after : List ℕ) (desk : Desk) → Printed r out after (listing_of f) → desk ≡ cleared d
-        → listed_of (Bytes r) desk after ≡ listed f d out
+        → listed_of (Ok r) desk after ≡ listed f d out
     unfolding listed
-    listed_good h r after desk p q = rw (w, le-ltb (length out) 65536 h) (λ i. listed_of (Bytes (p.0 i)) (q i) (p.1 i))
+    listed_good h r after desk p q = rw (w, le-ltb (length out) 65536 h) (λ i. listed_of (Ok (p.0 i)) (q i) (p.1 i))

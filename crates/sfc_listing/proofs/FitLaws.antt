@@ -1,5 +1,6 @@
 -- No listing is longer than the room that it is given: every line at its longest, a refused line for each 84 bytes of the file, and at
 -- most 512 missing ranges. Assumes nothing.
+use Rattle.std.specs.Prelude.{Option, Some, None, Ok}
 use Prim.Native.Nat.{ℕ, zero, suc, ◌+◌, ◌*◌, ◌/◌, ◌%◌, ◌≤◌}
 use mathlib.Core.Path.{◌≡◌, refl, ap}
 use mathlib.Core.Bool.{Bool, true, false, cond}
@@ -26,9 +27,6 @@ use Rattle.sfc_listing.specs.Text.{text, digits, decimal, hex, line}
 use Rattle.sfc_listing.specs.Listing.{between, session_after, session_in, refused_text, refusal_line, verdict_line, broke_at, refused_line, refused_lines, stop_in, told_in, uuid_line, shape_line, counts_line, head_text, missing_line, missing_lines, refused_word, last_word, end_text, session_text, program_checks, listing_of}
 use Rattle.sfc.specs.declared.format.header.Head.{Head}
 use Rattle.sfc.specs.declared.answer.reason.Reason.{Reason}
-use Rattle.sfc.specs.declared.answer.reason.Checked.TheVariants.{Good}
-use Rattle.sfc.specs.declared.answer.places.Spot.{Spot}
-use Rattle.sfc.specs.declared.answer.places.Spot.TheVariants.{At, Nowhere}
 use Rattle.sfc.specs.declared.session.offer.Verdict.{Verdict}
 use Rattle.sfc.specs.declared.session.offer.Verdict.TheVariants.{Fresh, Repeat, Refused}
 use Rattle.sfc.proofs.Laws.{check_laws, lent_laws, measure_laws, offer_laws}
@@ -36,6 +34,7 @@ use Rattle.sfc.proofs.Theorems.{ranges-few}
 use Rattle.sfc_walk.proofs.WalkTheorems.{walk_theorems}
 use Rattle.sfc_listing.proofs.FileLaws.{width_from, good_read}
 use Rattle.sfc_listing.proofs.TellLaws.{lines_append}
+use Rattle.sfc.specs.declared.answer.places.BytePlace.{BytePlace}
 
 -- ---- pieces, and one after the other
 
@@ -47,7 +46,7 @@ either true xs ys k h g = h
 either false xs ys k h g = g
 
 -- a text that checks decide
-decided : (cs : List Check) (refused : Reason → List ℕ) (good : List ℕ) (k : ℕ) → ((r : Reason) → length (refused r) ≤ k) → (verdict cs ≡ Good → length good ≤ k)
+decided : (cs : List Check) (refused : Reason → List ℕ) (good : List ℕ) (k : ℕ) → ((r : Reason) → length (refused r) ≤ k) → (verdict cs ≡ Ok tt → length good ≤ k)
     → length (checked cs refused good) ≤ k
 decided [] refused good k h g = g refl
 decided ((true, n) ∷ cs) refused good k h g = h (reason_of n)
@@ -112,14 +111,14 @@ refused_short number = ended (text "refused " ++ decimal number) 28 (named (text
 
 -- ---- the refused lines
 
-refusal_short : (at : ℕ) (r : Reason) (s : Spot) → length (refusal_line at r s) ≤ 50
+refusal_short : (at : ℕ) (r : Reason) (s : Option BytePlace) → length (refusal_line at r s) ≤ 50
 unfolding refusal_line text
-refusal_short at r (At p) =
+refusal_short at r (Some p) =
     let shown : List ℕ = text "refused " ++ decimal (number_of r) in
     ended (shown ++ text " " ++ decimal (at + p.0)) 49 (and_named shown (text " ") (at + p.0) 28 1 (named (text "refused ") (number_of r) 8 refl) refl)
-refusal_short at r Nowhere = omega (arith, refused_short (number_of r))
+refusal_short at r None = omega (arith, refused_short (number_of r))
 
-verdict_short : (at : ℕ) (v : Verdict) (s : Spot) → length (verdict_line at v s) ≤ 50
+verdict_short : (at : ℕ) (v : Verdict) (s : Option BytePlace) → length (verdict_line at v s) ≤ 50
 unfolding verdict_line
 verdict_short at (Fresh i p) s = omega arith
 verdict_short at (Repeat i p) s = omega arith
@@ -215,12 +214,12 @@ module _ (f : List ℕ) where
   abbrev head : Head
   head = head_of (region_of f)
 
-  pub header_good : verdict (program_checks head f) ≡ Good → verdict (header_checks f) ≡ Good
+  pub header_good : verdict (program_checks head f) ≡ Ok tt → verdict (header_checks f) ≡ Ok tt
   header_good e =
       let limit : List Check = (ltb 32768 ((head.n + head.m) * head.s), 15) ∷ [] in
       check_laws.front_good (header_checks f) limit (check_laws.all-passed (header_checks f ++ limit) (check_laws.passed (program_checks head f) e).1)
 
-  pub session_right : verdict (header_checks f) ≡ Good → session_wrong head (session_in head f) ≡ false
+  pub session_right : verdict (header_checks f) ≡ Ok tt → session_wrong head (session_in head f) ≡ false
   unfolding session_in
   session_right g = offer_laws.stays_lent head (blank head) (chunks_of head (between f)) (lent_laws.blank_right head (lent_laws.accepted_shape f head (good_read f g)))
 
@@ -228,14 +227,14 @@ module _ (f : List ℕ) where
   unfolding between
   in_file = part_short f (length_field f + 12) (width_from f (length_field f))
 
-  pub few_bytes : verdict (program_checks head f) ≡ Good → length (between f) ≤ 65536
+  pub few_bytes : verdict (program_checks head f) ≡ Ok tt → length (between f) ≤ 65536
   few_bytes e = omega (arith, ltb-false 65536 (length f) (check_laws.passed (program_checks head f) e).0, in_file)
 
-  pub is_session : verdict (program_checks head f) ≡ Good → listing_of f ≡ session_text head (length_field f + 12) (between f)
+  pub is_session : verdict (program_checks head f) ≡ Ok tt → listing_of f ≡ session_text head (length_field f + 12) (between f)
   unfolding listing_of
   is_session = check_laws.good_all (λ (r : Reason). refused_text (number_of r)) (program_checks head f) (session_text head (length_field f + 12) (between f))
 
-  listing_short : verdict (program_checks head f) ≡ Good → length (session_text head (length_field f + 12) (between f)) ≤ 65536
+  listing_short : verdict (program_checks head f) ≡ Ok tt → length (session_text head (length_field f + 12) (between f)) ≤ 65536
   unfolding session_in
   listing_short e = omega (arith, session_short head (length_field f + 12) (between f) (part_laws.length_cut (region_of f) 4 16) (few_bytes e) (session_right (header_good e)))
 

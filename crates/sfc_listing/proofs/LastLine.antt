@@ -1,4 +1,5 @@
 -- The lines of a listing, none of which has a line feed inside, and what the last one says of turn and release. Assumes nothing.
+use Rattle.std.specs.Prelude.{Option, Result, Some, None, Ok, Err}
 use Prim.Native.Nat.{ℕ, zero, suc, ◌+◌, ◌/◌, ◌%◌, ◌≤◌}
 use mathlib.Core.Path.{◌≡◌, refl, sym, ap, ◌∙◌}
 use mathlib.Core.Logic.{◌↔◌}
@@ -11,7 +12,7 @@ use lib.ListN.{length, length-append}
 use Rattle.little.specs.Runs.{any}
 use Rattle.little.proofs.Laws.{test_laws}
 use Rattle.sfc.specs.answer.Numbers.{Check, number_of, reason_of}
-use Rattle.sfc.specs.answer.Places.{place}
+use Rattle.sfc.specs.answer.Places.{place, complete}
 use Rattle.sfc.specs.session.Marks.{held_count, barred_count}
 use Rattle.sfc.specs.session.Lent.{Lent, rebuild_wrong}
 use Rattle.sfc.specs.session.Session.{Session, blank, verdict_of, after}
@@ -26,14 +27,11 @@ use Rattle.sfc_listing.specs.Listing.{session_after, refused_text, broken_text, 
 use Rattle.sfc_listing.specs.ListingTheorems.{is_refused, longer, lines_of, last_of, last_line}
 use Rattle.sfc.specs.declared.format.header.Head.{Head}
 use Rattle.sfc.specs.declared.answer.places.BytePlace.{BytePlace}
-use Rattle.sfc.specs.declared.answer.places.Spot.{Spot}
-use Rattle.sfc.specs.declared.answer.places.Spot.TheVariants.{At, Nowhere}
 use Rattle.sfc.specs.declared.answer.reason.Reason.{Reason}
 use Rattle.sfc.specs.declared.session.offer.Verdict.{Verdict}
 use Rattle.sfc.specs.declared.session.offer.Verdict.TheVariants.{Fresh, Repeat, Refused as NotTaken}
-use Rattle.sfc.specs.declared.give.release.HandedOut.{HandedOut}
-use Rattle.sfc.specs.declared.give.release.HandedOut.TheVariants.{Complete, Refused}
 use Rattle.sfc.proofs.Laws.{give_laws}
+use Rattle.sfc.specs.declared.give.release.Complete.{Complete}
 
 -- ---- texts without a line feed
 
@@ -156,11 +154,11 @@ range_lines (r ∷ rs) t =
 
 -- ---- the refused lines
 
-abbrev refusal_text : ℕ → Reason → Spot → List ℕ
-refusal_text at r (At p) = broken_text (number_of r) (at + p.0)
-refusal_text at r Nowhere = text "refused " ++ decimal (number_of r)
+abbrev refusal_text : ℕ → Reason → Option BytePlace → List ℕ
+refusal_text at r (Some p) = broken_text (number_of r) (at + p.0)
+refusal_text at r None = text "refused " ++ decimal (number_of r)
 
-unfoldable pub verdict_texts : ℕ → Verdict → Spot → List (List ℕ)
+unfoldable pub verdict_texts : ℕ → Verdict → Option BytePlace → List (List ℕ)
 verdict_texts at (Fresh i p) s = []
 verdict_texts at (Repeat i p) s = []
 verdict_texts at (NotTaken r) s = refusal_text at r s ∷ []
@@ -169,17 +167,17 @@ unfoldable pub refused_texts : Head → Session → ℕ → List (List ℕ) → 
 refused_texts h x at [] = []
 refused_texts h x at (c ∷ cs) = verdict_texts at (verdict_of h x c) (broke_at h x c) ++ refused_texts h (after h x c) (at + length c) cs
 
-refusal_plain : (at : ℕ) (r : Reason) (s : Spot) → Plain (refusal_text at r s)
+refusal_plain : (at : ℕ) (r : Reason) (s : Option BytePlace) → Plain (refusal_text at r s)
 unfolding text any
-refusal_plain at r (At p) = and_named (text "refused " ++ decimal (number_of r)) (text " ") (at + p.0) (named (text "refused ") (number_of r) refl) refl
-refusal_plain at r Nowhere = named (text "refused ") (number_of r) refl
+refusal_plain at r (Some p) = and_named (text "refused " ++ decimal (number_of r)) (text " ") (at + p.0) (named (text "refused ") (number_of r) refl) refl
+refusal_plain at r None = named (text "refused ") (number_of r) refl
 
-refusal_line_lem : (at : ℕ) (r : Reason) (s : Spot) → refusal_line at r s ≡ line (refusal_text at r s)
+refusal_line_lem : (at : ℕ) (r : Reason) (s : Option BytePlace) → refusal_line at r s ≡ line (refusal_text at r s)
 unfolding refusal_line refused_text
-refusal_line_lem at r (At p) = refl
-refusal_line_lem at r Nowhere = refl
+refusal_line_lem at r (Some p) = refl
+refusal_line_lem at r None = refl
 
-verdict_lines : (at : ℕ) (v : Verdict) (s : Spot) (t : List ℕ) → lines_of (verdict_line at v s ++ t) ≡ verdict_texts at v s ++ lines_of t
+verdict_lines : (at : ℕ) (v : Verdict) (s : Option BytePlace) (t : List ℕ) → lines_of (verdict_line at v s ++ t) ≡ verdict_texts at v s ++ lines_of t
 unfolding verdict_line verdict_texts
 verdict_lines at (Fresh i p) s t = refl
 verdict_lines at (Repeat i p) s t = refl
@@ -196,7 +194,7 @@ refused_lines_lem h x at (c ∷ cs) t =
     ∙ ap (λ (ls : List (List ℕ)). texts ++ ls) (refused_lines_lem h (after h x c) (at + length c) cs t)
     ∙ sym (append_assoc texts (refused_texts h (after h x c) (at + length c) cs) (lines_of t))
 
-verdict-count : (at : ℕ) (v : Verdict) (s : Spot) → length (verdict_texts at v s) ≡ cond (is_refused v) 1 0
+verdict-count : (at : ℕ) (v : Verdict) (s : Option BytePlace) → length (verdict_texts at v s) ≡ cond (is_refused v) 1 0
 unfolding verdict_texts
 verdict-count at (Fresh i p) s = refl
 verdict-count at (Repeat i p) s = refl
@@ -219,12 +217,12 @@ texts_count h x at (c ∷ cs) =
 word_by : Bool → Bool → List ℕ
 word_by few differs = cond few (text "incomplete") (cond differs (text "hash differs") (text "complete"))
 
-answer_by : BytePlace → Bool → Bool → HandedOut
-answer_by p few differs = cond few (Refused (reason_of 50)) (cond differs (Refused (reason_of 51)) (Complete p))
+answer_by : BytePlace → Bool → Bool → Result Complete Reason
+answer_by p few differs = cond few (Err (reason_of 50)) (cond differs (Err (reason_of 51)) (Ok (complete p)))
 
-abbrev number_in : HandedOut → ℕ
-number_in (Complete p) = 0
-number_in (Refused r) = number_of r
+abbrev number_in : Result Complete Reason → ℕ
+number_in (Ok c) = 0
+number_in (Err r) = number_of r
 
 word_plain : (few differs : Bool) → Plain (word_by few differs)
 unfolding word_by text any
@@ -233,25 +231,25 @@ word_plain false true = refl
 word_plain false false = refl
 
 -- each word goes with one answer
-pub record Exactly (word : List ℕ) (answer : HandedOut) (p : BytePlace) : Type 0 where
-  pub complete : (word ≡ text "complete") ↔ (answer ≡ Complete p)
-  pub differs : (word ≡ text "hash differs") ↔ (answer ≡ Refused (reason_of 51))
-  pub incomplete : (word ≡ text "incomplete") ↔ (answer ≡ Refused (reason_of 50))
+pub record Exactly (word : List ℕ) (answer : Result Complete Reason) (p : BytePlace) : Type 0 where
+  pub whole : (word ≡ text "complete") ↔ (answer ≡ Ok (complete p))
+  pub differs : (word ≡ text "hash differs") ↔ (answer ≡ Err (reason_of 51))
+  pub incomplete : (word ≡ text "incomplete") ↔ (answer ≡ Err (reason_of 50))
 
 exactly : (p : BytePlace) (few differs : Bool) → Exactly (word_by few differs) (answer_by p few differs) p
 unfolding word_by answer_by text
 exactly p true differs = record {
-  complete = (λ e. absurd (omega (arith, ap length e)), λ e. absurd (omega (arith, ap number_in e)));
+  whole = (λ e. absurd (omega (arith, ap length e)), λ e. absurd (omega (arith, ap number_in e)));
   differs = (λ e. absurd (omega (arith, ap length e)), λ e. absurd (omega (arith, ap number_in e)));
   incomplete = (λ e. refl, λ e. refl);
 }
 exactly p false true = record {
-  complete = (λ e. absurd (omega (arith, ap length e)), λ e. absurd (omega (arith, ap number_in e)));
+  whole = (λ e. absurd (omega (arith, ap length e)), λ e. absurd (omega (arith, ap number_in e)));
   differs = (λ e. refl, λ e. refl);
   incomplete = (λ e. absurd (omega (arith, ap length e)), λ e. absurd (omega (arith, ap number_in e)));
 }
 exactly p false false = record {
-  complete = (λ e. refl, λ e. refl);
+  whole = (λ e. refl, λ e. refl);
   differs = (λ e. absurd (omega (arith, ap length e)), λ e. absurd (omega (arith, ap number_in e)));
   incomplete = (λ e. absurd (omega (arith, ap length e)), λ e. absurd (omega (arith, ap number_in e)));
 }
@@ -289,7 +287,7 @@ module _ (h : Head) (x : Session) where
     abbrev whole : Turning
     whole = turn h x.store x.marks l.scratch l.numbers 0 (h.s / 2)
 
-    abbrev answer : HandedOut
+    abbrev answer : Result Complete Reason
     answer = (release h x.store x.marks whole.scratch whole.finished l.output).answer
 
     answer_is : answer ≡ answer_by (place h.size) few other

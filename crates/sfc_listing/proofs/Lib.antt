@@ -1,5 +1,6 @@
 -- The laws that the proofs of the listing's functions cite, and the proofs of the statements in specs/, which alone are public.
 mod LineLaws
+mod PageLaws
 mod TellLaws
 mod ReportLaws
 mod FileLaws

@@ -12,7 +12,8 @@ use lib.Seq.{drop-drop}
 use Rattle.little.specs.Parts.{part}
 use Rattle.sfc.specs.answer.Numbers.{number_of}
 use Rattle.sfc.specs.answer.Places.{place}
-use Rattle.sfc.specs.format.Header.{length_field, region_of, trailer_of, read_header, accepted_header}
+use Rattle.std.specs.Prelude.{Ok}
+use Rattle.sfc.specs.format.Header.{length_field, region_of, trailer_of, read_header}
 use Rattle.sfc.specs.session.Lent.{Lent, shape_wrong, rebuild_wrong}
 use Rattle.sfc.specs.session.Tallies.{sum}
 use Rattle.sfc.specs.session.Session.{blank, verdict_of}
@@ -44,7 +45,7 @@ joined : (f : List ℕ) (at n end : ℕ) → at + n ≡ end → part f at n ++ d
 joined f at n end e = ap (λ (r : List ℕ). part f at n ++ r) (sym (drop-drop n at f ∙ ap (λ (j : ℕ). drop j f) e)) ∙ take-append-drop n (drop at f)
 
 module _ (f : List ℕ) (a : Accepted f) where
-  read : read_header f ≡ accepted_header (head_in f)
+  read : read_header f ≡ Ok (head_in f)
   read = good_read f (header_good f a)
 
   -- ---- what it is made of
@@ -104,7 +105,7 @@ listing_theorems = record {
   offers_answered = offers_answered;
   offers_end = offers_end;
   line-count = line-count;
-  last_line_complete = λ f a l r. carried (last_is f a) (said f a l r).complete;
+  last_line_complete = λ f a l r. carried (last_is f a) (said f a l r).whole;
   last_line-hash_differs = λ f a l r. carried (last_is f a) (said f a l r).differs;
   last_line_incomplete = λ f a l r. carried (last_is f a) (said f a l r).incomplete;
 }

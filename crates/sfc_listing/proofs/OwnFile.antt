@@ -1,5 +1,6 @@
 -- The listing of a file that our writer wrote says complete (specs/OwnFile): the chunks that the program finds in it are the
 -- file's own, in order, and after them every block is held. Assumes nothing.
+use Rattle.std.specs.Prelude.{Ok, Err}
 use Prim.Native.Nat.{ℕ, zero, suc, ◌+◌, ◌-◌, ◌*◌, ◌/◌, ◌≤◌, ◌<◌}
 use mathlib.Core.Path.{◌≡◌, refl, sym, ap, ap₂, ◌∙◌}
 use mathlib.Core.Bool.{Bool, true, false, cond}
@@ -14,9 +15,9 @@ use Rattle.little.specs.Parts.{part}
 use Rattle.little.proofs.Laws.{part_laws, block_laws}
 use Rattle.little.specs.Runs.{any, zeros, among}
 use Rattle.sfc.specs.answer.Numbers.{verdict, passes}
-use Rattle.sfc.specs.format.Header.{length_field, accepted_header}
+use Rattle.sfc.specs.format.Header.{length_field}
 use Rattle.sfc.specs.format.Chunk.{length_checks}
-use Rattle.sfc.specs.answer.Places.{number, place}
+use Rattle.sfc.specs.answer.Places.{number, place, complete}
 use Rattle.sfc.specs.session.Marks.{is_held, held_count, barred_count}
 use Rattle.sfc.specs.session.Tallies.{sum}
 use Rattle.sfc.specs.session.Session.{Session, blank}
@@ -37,9 +38,7 @@ use Rattle.sfc_listing.specs.Steps.{accepted_text}
 use Rattle.sfc_listing.specs.ListingTheorems.{is_refused}
 use Rattle.sfc_listing.specs.OwnFile.{OwnFile}
 use Rattle.sfc.specs.declared.format.header.Head.{Head}
-use Rattle.sfc.specs.declared.answer.reason.Checked.TheVariants.{Good}
 use Rattle.sfc.specs.declared.session.offer.Verdict.TheVariants.{Fresh, Repeat}
-use Rattle.sfc.specs.declared.give.release.HandedOut.TheVariants.{Complete, Refused}
 use Rattle.sfc.proofs.Laws.{check_laws, lent_laws, offer_laws, give_laws, written_laws, count_laws}
 use Rattle.sfc.proofs.Theorems.{demand2}
 use Rattle.sfc_walk.proofs.WalkTheorems.{walk_theorems}
@@ -99,7 +98,7 @@ up_different n =
 
 -- ---- what is said of a session with all blocks held and nothing against its content
 
-module _ (h : Head) (x : Session) (full : x.marks ≡ replicate (h.n + h.m) 1) (good : verdict (content_checks h x.store x.marks) ≡ Good) where
+module _ (h : Head) (x : Session) (full : x.marks ≡ replicate (h.n + h.m) 1) (good : verdict (content_checks h x.store x.marks) ≡ Ok tt) where
   held : held_count x.marks ≡ h.n + h.m
   held = ap held_count full ∙ all_held (h.n + h.m)
 
@@ -233,7 +232,7 @@ module _ (w : Input) (l : Lawful w) where
       )
 
   -- in it a turn for all columns and a release are complete, so that no check of the content refuses
-  content_good : verdict (content_checks (head_for w) (received w all).store (received w all).marks) ≡ Good
+  content_good : verdict (content_checks (head_for w) (received w all).store (received w all).marks) ≡ Ok tt
   unfolding acted_all acted turns_of sum
   content_good =
       let s : List ℕ = (received w all).store in
@@ -241,7 +240,7 @@ module _ (w : Input) (l : Lawful w) where
       let room : size w ≤ length out = omega (arith, length-replicate {A = ℕ} (size w) 0) in
       let e = demand2.round_trip w l all below few (omega (arith, up_different count)) scratch (w.s / 2 ∷ []) out scratch_long (omega arith) room in
       let t = give_laws.whole-turn (head_for w) s m scratch (zeros 1024) out lent_right room (turn (head_for w) s m scratch (zeros 1024) 0 (w.s / 2)) refl in
-      check_laws.tells hand_out_seen Refused (Complete (place (size w))) (λ q. refl) refl (content_checks (head_for w) s m) Good
+      check_laws.tells hand_out_seen Err (Ok (complete (place (size w)))) (λ q. refl) refl (content_checks (head_for w) s m) (Ok tt)
       (ap hand_out_seen (sym t ∙ ap (λ (r : Releasing). r.answer) e))
 
   -- ---- no chunk is refused, and nothing is left after them
@@ -285,7 +284,7 @@ module _ (w : Input) (l : Lawful w) where
       → listing_of (file_of w) ≡ head_text w.uuid (blocks w) w.m (size w) w.s ++ counts_line count 0 ++ line (text "complete")
   unfolding accepted_text
   own_file_complete short small =
-      sym (listing_accepted (file_of w) short (accepted_header (head_for w)) (sym (demand2.file_read_back w l)) refl).1
+      sym (listing_accepted (file_of w) short (Ok (head_for w)) (sym (demand2.file_read_back w l)) (head_for w) refl).1
       ∙ rw (le-ltb 32768 (count * w.s) small) (session_said (length_field (file_of w) + 12))
 
 pub own_file : OwnFile

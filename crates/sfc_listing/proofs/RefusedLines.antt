@@ -1,4 +1,5 @@
 -- The theorems of the refused lines (specs/RefusedLines), from the lines of a text and what each says. Assumes nothing.
+use Rattle.std.specs.Prelude.{Some}
 use Prim.Native.Nat.{ℕ, suc, ◌+◌}
 use mathlib.Core.Path.{◌≡◌, sym, ap, ap₂, ◌∙◌}
 use mathlib.Core.Bool.{false}
@@ -19,7 +20,6 @@ use Rattle.sfc_listing.specs.RefusedLines.{break_text, breaks_of, RefusedLines}
 use Rattle.sfc.specs.declared.format.header.Head.{Head}
 use Rattle.sfc.specs.declared.answer.reason.Reason.{Reason}
 use Rattle.sfc.specs.declared.answer.places.BytePlace.{BytePlace}
-use Rattle.sfc.specs.declared.answer.places.Spot.TheVariants.{At}
 use Rattle.sfc.specs.declared.session.offer.Verdict.TheVariants.{Refused}
 use Rattle.sfc.proofs.Laws.{lent_laws, offer_laws}
 use Rattle.sfc_listing.proofs.FileLaws.{good_read}
@@ -69,7 +69,7 @@ module _ (f : List ℕ) (a : Accepted f) where
         (omega (arith, offer_laws.total-all (head_in f) (blank (head_in f)) cs, ap length et, length-append cs (c ∷ ds), told-few (head_in f) (between f), few_bytes f a))
 
     -- the lines, cut where the offer's own is
-    lines_cut : (p : BytePlace) → verdict_of (head_in f) before c ≡ Refused r → broke_at (head_in f) before c ≡ At p
+    lines_cut : (p : BytePlace) → verdict_of (head_in f) before c ≡ Refused r → broke_at (head_in f) before c ≡ Some p
         → get_or (lines_of (listing_of f)) (2 + count is_refused (verdicts (head_in f) (blank (head_in f)) cs)) [] ≡ broken_text (number_of r) (own + p.0)
     unfolding refused_texts
     lines_cut p ev ep =
@@ -83,7 +83,7 @@ module _ (f : List ℕ) (a : Accepted f) where
         ∙ text_at _ first _ _ _ _ t (texts_count h (blank h) (length_field f + 12) cs)
 
     each-told : verdict_of (head_in f) before c ≡ Refused r
-        → (p : BytePlace) × (broke_at (head_in f) before c ≡ At p)
+        → (p : BytePlace) × (broke_at (head_in f) before c ≡ Some p)
         × (get_or (lines_of (listing_of f)) (2 + count is_refused (verdicts (head_in f) (blank (head_in f)) cs)) [] ≡ broken_text (number_of r) (own + p.0))
     each-told ev =
         let q = has_place (head_in f) before c (offer_laws.stays_lent (head_in f) (blank (head_in f)) cs blank_right) few-before r ev in

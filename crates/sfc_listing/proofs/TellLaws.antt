@@ -1,5 +1,6 @@
 -- The refused lines: of offers one after the other, a turn of the loop that tells them, the stop, and all of them together.
 -- Assumes nothing.
+use Rattle.std.specs.Prelude.{Option, Some, None}
 use Prim.Native.Nat.{ℕ, ◌+◌, ◌*◌, ◌/◌, ◌<◌, ◌≤◌}
 use mathlib.Core.Path.{◌≡◌, refl, sym, ap, ap₂, ◌∙◌, subst}
 use mathlib.Core.Bool.{false}
@@ -17,19 +18,35 @@ use Rattle.sfc.specs.session.History.{after_all}
 use Rattle.sfc.specs.session.Offer.{Logged, beside_wrong, logged_after, Offered, offered_of, offered}
 use Rattle.sfc.specs.session.SessionTheorems.{SameKept}
 use Rattle.sfc.specs.declared.format.header.Head.{Head}
-use Rattle.sfc.specs.declared.answer.places.Spot.{Spot}
 use Rattle.sfc.specs.declared.answer.reason.Reason.{Reason}
 use Rattle.sfc.specs.declared.session.offer.Verdict.{Verdict}
 use Rattle.sfc.specs.declared.session.offer.Verdict.TheVariants.{Refused}
 use Rattle.sfc.specs.declared.session.tallies.Tallies.{Tallies}
-use Rattle.sfc_walk.specs.Walk.{front_length, chunks_of, length_of_all}
+use Rattle.sfc_walk.specs.Walk.{front_length, some_length, chunks_of, length_of_all}
 use Rattle.sfc_listing.specs.Listing.{session_after, verdict_line, broke_at, refused_line, refused_lines, stop_in, told_in}
-use Rattle.sfc_listing.specs.Lines.{Appended}
+use Rattle.sfc_listing.specs.Page.{HasRoom, Puts}
+use Rattle.sfc_listing.specs.declared.page.Page.{Page}
+use Rattle.sfc_listing.specs.Lent.{SameSession}
+use Rattle.sfc_listing.specs.declared.lent.LentSession.{LentSession}
 use Rattle.sfc_listing.specs.Steps.{chunks_room, told_room, OfferTold, ChunksTold, StopTold, Tellable, OffersTold}
 use Rattle.sfc.proofs.Laws.{lent_laws, offer_laws}
 use Rattle.sfc.proofs.Theorems.{one_offer}
 use Rattle.sfc_walk.proofs.WalkTheorems.{walk_theorems}
-use Rattle.sfc_listing.proofs.LineLaws.{joined, appended_long, none_made, Appending, appending_start, appending_next, appending_end}
+use Rattle.sfc_listing.proofs.PageLaws.{puts_then, puts_none, Putting, putting_next, putting_low, putting_end}
+use Rattle.sfc.specs.declared.answer.places.BytePlace.{BytePlace}
+
+-- ---- the memory
+
+pub same_then : {s t u : LentSession} → SameSession s t → SameSession t u → SameSession s u
+same_then f g = record {
+  head = g.head ∙ f.head;
+  store = g.store ∙ f.store;
+  marks = g.marks ∙ f.marks;
+  scratch = g.scratch ∙ f.scratch;
+  store_long = g.store_long ∙ f.store_long;
+  marks_long = g.marks_long ∙ f.marks_long;
+  scratch_long = g.scratch_long ∙ f.scratch_long;
+}
 
 -- ---- offers one after the other
 
@@ -55,19 +72,25 @@ lines_append h x at (c ∷ cs) ds =
     ∙ sym (append_assoc line (refused_lines h (after h x c) (at + length c) cs) (refused_lines h (after_all h (after h x c) cs) (at + (length c + length_of_all cs)) ds))
 
 -- what the call of an offer and its line come to
-pub offer_told : (h : Head) (y : Logged) (c : List ℕ) (own : ℕ) {out put : List ℕ} {at r : ℕ} → beside_wrong h y ≡ false → (z : Logged) (v : Verdict) (s : Spot)
-    → offered_of z v s ≡ offered h y c → Appended 50 out at (verdict_line own v s) r put → OfferTold h y.session c own out at z r put
+pub offer_told : (h : Head) (y : Logged) (c : List ℕ) (own : ℕ) {p q : Page} → beside_wrong h y ≡ false → (z : Logged) (v : Verdict) (s : Option BytePlace)
+    → offered_of z v s ≡ offered h y c → Puts 50 p (verdict_line own v s) q → OfferTold h y.session c own p z q
 unfolding offered
-offer_told h y c own {out} {put} {at} {r} right z v s e p =
+offer_told h y c own {p} {q} right z v s e f =
     let o = offer_laws.own_offer h y c right in
-    let ez : z ≡ logged_after h y c = ap (λ (q : Offered). q.kept) e in
-    let ev : v ≡ verdict_of h y.session c = ap (λ (q : Offered). q.verdict) e ∙ o.verdict in
-    let es : s ≡ broke_at h y.session c = ap (λ (q : Offered). q.spot) e ∙ ap (spot_of h c) o.verdict in
+    let ez : z ≡ logged_after h y c = ap (λ (x : Offered). x.kept) e in
+    let ev : v ≡ verdict_of h y.session c = ap (λ (x : Offered). x.verdict) e ∙ o.verdict in
+    let es : s ≡ broke_at h y.session c = ap (λ (x : Offered). x.spot) e ∙ ap (spot_of h c) o.verdict in
     record {
-      left = ap (λ (q : Logged). q.session) ez ∙ o.session;
-      beside = ap (λ (q : Logged). beside_wrong h q) ez ∙ o.beside;
-      told = subst (λ (l : List ℕ). Appended 50 out at l r put) (ap₂ (verdict_line own) ev es) p;
+      left = ap (λ (x : Logged). x.session) ez ∙ o.session;
+      beside = ap (λ (x : Logged). beside_wrong h x) ez ∙ o.beside;
+      told = subst (λ (l : List ℕ). Puts 50 p l q) (ap₂ (verdict_line own) ev es) f;
     }
+
+-- what is beside the next chunk is as right as it was
+pub offer_beside : (h : Head) (y : Logged) (c : List ℕ) → beside_wrong h y ≡ false → (z : Logged) (v : Verdict) (s : Option BytePlace)
+    → offered_of z v s ≡ offered h y c → beside_wrong h z ≡ false
+unfolding offered
+offer_beside h y c right z v s e = ap (λ (x : Logged). beside_wrong h x) (ap (λ (x : Offered). x.kept) e) ∙ (offer_laws.own_offer h y c right).beside
 
 -- where nothing is rebuilt, 71 wants of scratch its length alone
 pub none_rebuilt : (h : Head) (scratch : List ℕ) → length scratch ≡ h.m * h.s → rebuilding_wrong h.m h.s scratch 0 ≡ false
@@ -76,91 +99,77 @@ none_rebuilt h scratch e = rw (eq-eqb (length scratch) (h.m * h.s) e, le-ltb (h.
 
 -- ---- the loop over the chunks
 
-module _ (h : Head) (y₀ : Logged) (b : List ℕ) (from : ℕ) (out₀ : List ℕ) (start : ℕ) where
-  -- with `at` bytes done and a chunk of k bytes next: the session and the lines from here on end as the whole does
-  pub record Telling (at to k : ℕ) (y : Logged) (out : List ℕ) : Type 0 where
+module _ (h : Head) (y₀ : Logged) (b : List ℕ) (from : ℕ) (p₀ : Page) where
+  -- with `at` bytes done: the session and the lines from here on end as the whole does
+  pub record Telling (at : ℕ) (y : Logged) (p : Page) : Type 0 where
     pub inside : at ≤ length b
-    pub ahead : k ≡ front_length h (drop at b)
     pub onward : after_all h y.session (chunks_of h (drop at b)) ≡ after_all h y₀.session (chunks_of h b)
     pub beside : beside_wrong h y ≡ false
     pub ends : at + length_of_all (chunks_of h (drop at b)) ≡ length_of_all (chunks_of h b)
-    pub few : 84 * to ≤ 84 * start + 50 * at
-    pub lines : Appending chunks_room out₀ start (refused_lines h y₀.session from (chunks_of h b)) (refused_lines h y.session (from + at) (chunks_of h (drop at b))) to out
+    pub few : 84 * p.at ≤ 84 * p₀.at + 50 * at
+    pub lines : Putting chunks_room p₀ (refused_lines h y₀.session from (chunks_of h b)) (refused_lines h y.session (from + at) (chunks_of h (drop at b))) p
 
-  pub telling_start : beside_wrong h y₀ ≡ false → (k : ℕ) → k ≡ front_length h b → Telling 0 start k y₀ out₀
-  telling_start right k e =
-      let z : from ≡ from + 0 = omega arith in
-      let a = appending_start out₀ start (refused_lines h y₀.session from (chunks_of h b)) in
-      record {
-        inside = omega arith;
-        ahead = e;
-        onward = refl;
-        beside = right;
-        ends = omega arith;
-        few = omega arith;
-        lines = rw (← z) record { long = a.long; low = omega arith; place = a.place; all = a.all };
-      }
+  module _ (at : ℕ) (y : Logged) (p : Page) (w : Telling at y p) (t : List ℕ) (rest : t ≡ drop at b) (x : Option ℕ) (ex : x ≡ some_length (front_length h t)) where
+    found : x ≡ some_length (front_length h (drop at b))
+    found = ex ∙ ap (λ (u : List ℕ). some_length (front_length h u)) rest
 
-  module _ (at to k : ℕ) (y : Logged) (out : List ℕ) (w : Telling at to k y out) where
-    pub telling_end : k ≤ 0 → ChunksTold h y₀.session b from out₀ start y at to out
+    pub telling_end : x ≡ None → ChunksTold h y₀.session b from p₀ y at p
     unfolding after_all length_of_all
     telling_end z =
-        let n : chunks_of h (drop at b) ≡ [] = walk_theorems.front_none h (drop at b) (omega (arith, w.ahead)) in
+        let n : chunks_of h (drop at b) ≡ [] = walk_theorems.none_found h (drop at b) (sym found ∙ z) in
         let e : at + 0 ≡ length_of_all (chunks_of h b) = rw n at w.ends in
-        let l : Appending chunks_room out₀ start (refused_lines h y₀.session from (chunks_of h b)) [] to out
-        = subst (λ (l : List ℕ). Appending chunks_room out₀ start (refused_lines h y₀.session from (chunks_of h b)) l to out) (ap (refused_lines h y.session (from + at)) n ∙ lines_none h y.session (from + at)) w.lines in
-        record { left = rw n at w.onward; beside = w.beside; ends = omega arith; told = appending_end l }
+        let l : Putting chunks_room p₀ (refused_lines h y₀.session from (chunks_of h b)) [] p
+        = subst (λ (l : List ℕ). Putting chunks_room p₀ (refused_lines h y₀.session from (chunks_of h b)) l p) (ap (refused_lines h y.session (from + at)) n ∙ lines_none h y.session (from + at)) w.lines in
+        record { left = rw n at w.onward; beside = w.beside; ends = omega arith; told = putting_end l }
 
-    module _ (near : from + length b ≤ 65536) (room : start + chunks_room ≤ length out₀) (some : 0 < k) where
+    module _ (near : from + length b ≤ 65536) (room : HasRoom chunks_room p₀) (k : ℕ) (some : x ≡ Some k) where
       step : (chunks_of h (drop at b) ≡ take k (drop at b) ∷ chunks_of h (drop k (drop at b))) × (84 ≤ k) × (k ≤ length (drop at b))
-      step = rw w.ahead (walk_theorems.front_next h (drop at b) (λ z. omega (arith, w.ahead)))
+      step = walk_theorems.next_found h (drop at b) k (sym found ∙ some)
 
-      -- the chunk lies in the bytes, and its line in the output
-      pub chunk_inside : (at + k ≤ length b) × (from + at ≤ 65536) × (to + 50 ≤ length out)
+      -- the chunk lies in the bytes, and its line on the page
+      pub chunk_inside : (at + k ≤ length b) × (from + at ≤ 65536) × HasRoom 50 p × (0 < k)
       chunk_inside =
           let i : at + k ≤ length b = omega (arith, step.2, length-drop at b, w.inside) in
-          (i, omega arith, omega (arith, step.1, w.few, w.lines.long))
+          (i, omega arith, omega (arith, step.1, w.few, w.lines.lines.long, i, room, near), omega (arith, step.1))
 
-      pub telling_on : (c : List ℕ) (z : Logged) (r : ℕ) (printed : List ℕ) (k' : ℕ) → c ≡ take k (drop at b) → OfferTold h y.session c (from + at) out to z r printed
-          → k' ≡ front_length h (drop (at + k) b) → Telling (at + k) r k' z printed
+      pub telling_on : (c : List ℕ) (z : Logged) (q : Page) → c ≡ take k (drop at b) → OfferTold h y.session c (from + at) p z q → Telling (at + k) z q
       unfolding after_all length_of_all
-      telling_on c z r printed k' ec o ek =
-          let x : Session = y.session in
+      telling_on c z q ec o =
+          let s : Session = y.session in
           let cs : List (List ℕ) = chunks_of h (drop (at + k) b) in
           let n : chunks_of h (drop at b) ≡ c ∷ cs = step.0 ∙ ap₂ (λ (d e : List ℕ). d ∷ chunks_of h e) (sym ec) (drop-drop k at b) in
           let l : length c ≡ k = ap length ec ∙ length-take-le k (drop at b) step.2 in
           let m : at + (length c + length_of_all cs) ≡ length_of_all (chunks_of h b) = rw n at w.ends in
-          let p : from + at + length c ≡ from + (at + k) = omega arith in
-          let g : refused_lines h x (from + at) (chunks_of h (drop at b)) ≡ refused_line h x (from + at) c ++ refused_lines h z.session (from + (at + k)) cs
-          = ap (refused_lines h x (from + at)) n ∙ lines_next h x (from + at) c cs
-          ∙ ap₂ (λ (q : Session) (j : ℕ). refused_line h x (from + at) c ++ refused_lines h q j cs) (sym o.left) p in
-          let few : 84 * r ≤ 84 * start + 50 * (at + k) = omega (arith, o.told.place, o.told.short, w.few, step.1) in
-          let a = appending_next chunk_inside.2 (subst (λ (t : List ℕ). Appending chunks_room out₀ start (refused_lines h y₀.session from (chunks_of h b)) t to out) g w.lines) o.told in
+          let i : from + at + length c ≡ from + (at + k) = omega arith in
+          let g : refused_lines h s (from + at) (chunks_of h (drop at b)) ≡ refused_line h s (from + at) c ++ refused_lines h z.session (from + (at + k)) cs
+          = ap (refused_lines h s (from + at)) n ∙ lines_next h s (from + at) c cs
+          ∙ ap₂ (λ (u : Session) (j : ℕ). refused_line h s (from + at) c ++ refused_lines h u j cs) (sym o.left) i in
+          let few : 84 * q.at ≤ 84 * p₀.at + 50 * (at + k) = omega (arith, o.told.told.place, o.told.told.short, w.few, step.1) in
+          let f = putting_next chunk_inside.2 (subst (λ (u : List ℕ). Putting chunks_room p₀ (refused_lines h y₀.session from (chunks_of h b)) u p) g w.lines) o.told in
           record {
             inside = chunk_inside.0;
-            ahead = ek;
-            onward = ap (λ (q : Session). after_all h q cs) o.left ∙ (rw n at w.onward);
+            onward = ap (λ (u : Session). after_all h u cs) o.left ∙ (rw n at w.onward);
             beside = o.beside;
             ends = omega arith;
             few = few;
-            lines = record { long = a.long; low = omega (arith, few, chunk_inside.0); place = a.place; all = a.all };
+            lines = putting_low f (omega (arith, few, chunk_inside.0, near));
           }
 
 -- ---- the stop
 
-pub stop_none : (h : Head) (x : Session) (b : List ℕ) (from : ℕ) (out : List ℕ) (at : ℕ) → length b ≡ 0 → StopTold h x b from out at x.store x.marks at out
+pub stop_none : (h : Head) (x : Session) (b : List ℕ) (from : ℕ) (p : Page) → length b ≡ 0 → StopTold h x b from p x.store x.marks p
 unfolding stop_in after_all refused_lines
-stop_none h x [] from out at e = record { store-left = refl; marks-left = refl; told = none_made out at }
-stop_none h x (c ∷ b) from out at e = absurd (omega arith)
+stop_none h x [] from p e = record { store-left = refl; marks-left = refl; told = puts_none p }
+stop_none h x (c ∷ b) from p e = absurd (omega arith)
 
-pub stop_some : (h : Head) (x : Session) (b : List ℕ) (from : ℕ) {out : List ℕ} {at : ℕ} (y : Logged) {r : ℕ} {printed : List ℕ} → (length b ≡ 0 → ⊥)
-    → OfferTold h x b from out at y r printed → StopTold h x b from out at y.session.store y.session.marks r printed
+pub stop_some : (h : Head) (x : Session) (b : List ℕ) (from : ℕ) {p q : Page} (y : Logged) → (length b ≡ 0 → ⊥)
+    → OfferTold h x b from p y q → StopTold h x b from p y.session.store y.session.marks q
 unfolding stop_in after_all refused_lines
 stop_some h x [] from y s o = absurd (s refl)
-stop_some h x (c ∷ b) from {out} {at} y {r} {printed} s o = record {
+stop_some h x (c ∷ b) from {p} {q} y s o = record {
   store-left = ap (λ (z : Session). z.store) o.left;
   marks-left = ap (λ (z : Session). z.marks) o.left;
-  told = subst (λ (l : List ℕ). Appended 50 out at l r printed) (sym (append-nil (refused_line h x from (c ∷ b)))) o.told;
+  told = subst (λ (l : List ℕ). Puts 50 p l q) (sym (append-nil (refused_line h x from (c ∷ b)))) o.told;
 }
 
 -- ---- all offers
@@ -186,9 +195,9 @@ module _ (h : Head) (b : List ℕ) (shape : shape_wrong h.size h.n h.m h.s ≡ f
   stop_keeps (a ∷ c) e =
       rw e (one_offer.refused_changes_nothing h walked left refused.0 refused.1 (λ n. omega (arith, refused.3)))
 
-module _ (h : Head) (store₀ marks₀ scratch₀ b : List ℕ) (from : ℕ) (out : List ℕ) (at : ℕ) (y : Tellable h store₀ marks₀ scratch₀ b from out at)
+module _ (h : Head) (store₀ marks₀ scratch₀ b : List ℕ) (from : ℕ) (p : Page) (y : Tellable h store₀ marks₀ scratch₀ b from p)
     (store₁ marks₁ : List ℕ) (t₀ : Tallies) (cs : store₁ ≡ zeros (length store₀)) (cm : marks₁ ≡ zeros (length marks₀)) (ct : t₀ ≡ no_tallies)
-    (z : Logged) (end to : ℕ) (printed : List ℕ) (w : ChunksTold h (session_of store₁ marks₁ t₀) b from out at z end to printed) where
+    (z : Logged) (end : ℕ) (q : Page) (w : ChunksTold h (session_of store₁ marks₁ t₀) b from p z end q) where
   short : length b ≤ 65536
   short = omega (arith, y.near)
 
@@ -198,16 +207,15 @@ module _ (h : Head) (store₀ marks₀ scratch₀ b : List ℕ) (from : ℕ) (ou
   is_session : z.session ≡ session_after h b
   is_session = w.left ∙ ap (λ (x : Session). after_all h x (chunks_of h b)) from_blank
 
-  pub stop_inside : (end ≤ length b) × (from + end ≤ 65536) × (to + 50 ≤ length printed)
+  pub stop_inside : (end ≤ length b) × (from + end ≤ 65536) × HasRoom 50 q
   stop_inside =
       let i : end ≤ length b = omega (arith, w.ends, walk_theorems.end_inside h b) in
-      let long = appended_long w.told (omega (arith, y.room)) in
-      (i, omega (arith, y.near), omega (arith, y.room, w.told.place, w.told.short))
+      (i, omega (arith, y.near, i), omega (arith, y.room, w.told.long, w.told.told.place, w.told.told.short))
 
-  pub offers_told : (rest store₂ marks₂ : List ℕ) (r : ℕ) (after : List ℕ) → rest ≡ drop end b
-      → StopTold h z.session rest (from + end) printed to store₂ marks₂ r after → OffersTold h b from out at store₂ marks₂ r after
+  pub offers_told : (rest store₂ marks₂ : List ℕ) (r : Page) → rest ≡ drop end b
+      → StopTold h z.session rest (from + end) q store₂ marks₂ r → OffersTold h b from p store₂ marks₂ r
   unfolding told_in
-  offers_told rest store₂ marks₂ r after er s =
+  offers_told rest store₂ marks₂ r er s =
       let el : rest ≡ left h b y.shape short = er ∙ ap (λ (j : ℕ). drop j b) w.ends in
       let k = stop_keeps h b y.shape short rest el in
       let first = ap (λ (x : Session). refused_lines h x from (chunks_of h b)) from_blank in
@@ -217,5 +225,5 @@ module _ (h : Head) (store₀ marks₀ scratch₀ b : List ℕ) (from : ℕ) (ou
       record {
         store-left = s.store-left ∙ ap (λ (x : Session). (after_all h x (stop_in rest)).store) is_session ∙ k.store;
         marks-left = s.marks-left ∙ ap (λ (x : Session). (after_all h x (stop_in rest)).marks) is_session ∙ k.marks;
-        told = subst (λ (l : List ℕ). Appended told_room out at l r after) all (joined (omega (arith, y.room)) w.told s.told);
+        told = subst (λ (l : List ℕ). Puts told_room p l r) all (puts_then (omega (arith, y.room)) w.told s.told);
       }

@@ -1,6 +1,6 @@
 -- What the program prints for a file (document 01, "Resend note and listing"; document 02, [4]), and the call that makes it.
 -- Assumes nothing: these are definitions.
-use Rattle.std.specs.Prelude.{ℕ, ◌+◌, ◌-◌, ◌*◌, Bool, cond, not, ◌||◌, List, [], ◌∷◌, ◌++◌, ltb, eqb, length, drop}
+use Rattle.std.specs.Prelude.{ℕ, ◌+◌, ◌-◌, ◌*◌, Bool, cond, not, ◌||◌, List, [], ◌∷◌, ◌++◌, ltb, eqb, length, drop, Option, Result, Some, None, Ok, Err}
 use Rattle.little.specs.Parts.{part, put}
 use Rattle.little.specs.Runs.{zeros}
 use Rattle.sfc.specs.answer.Numbers.{Check, checked, number_of}
@@ -15,12 +15,9 @@ use Rattle.sfc_walk.specs.Walk.{chunks_of, length_of_all}
 use Rattle.sfc_listing.specs.Text.{text, decimal, hex, line}
 use Rattle.sfc.specs.declared.format.header.Head.{Head}
 use Rattle.sfc.specs.declared.answer.reason.Reason.{Reason}
-use Rattle.sfc.specs.declared.answer.places.Spot.{Spot}
-use Rattle.sfc.specs.declared.answer.places.Spot.TheVariants.{At, Nowhere}
 use Rattle.sfc.specs.declared.session.offer.Verdict.{Verdict}
 use Rattle.sfc.specs.declared.session.offer.Verdict.TheVariants.{Fresh, Repeat, Refused as NotTaken}
-use Rattle.sfc.specs.declared.answer.written.Written.{Written}
-use Rattle.sfc.specs.declared.answer.written.Written.TheVariants.{Bytes, Refused}
+use Rattle.sfc.specs.declared.answer.places.BytePlace.{BytePlace}
 
 -- ---- the program's session
 
@@ -46,18 +43,18 @@ broken_text number place = text "refused " ++ decimal number ++ text " " ++ deci
 
 -- the line of a refusal: `at` is where the chunk begins in the file, to which the place in the chunk is added; the numbers that have
 -- none, 43 and 71, are given to no offer of a listing
-unfoldable pub refusal_line : ℕ → Reason → Spot → List ℕ
-refusal_line at r (At p) = line (broken_text (number_of r) (at + p.0))
-refusal_line at r Nowhere = refused_text (number_of r)
+unfoldable pub refusal_line : ℕ → Reason → Option BytePlace → List ℕ
+refusal_line at r (Some p) = line (broken_text (number_of r) (at + p.0))
+refusal_line at r None = refused_text (number_of r)
 
 -- and of any verdict: what was taken has none
-unfoldable pub verdict_line : ℕ → Verdict → Spot → List ℕ
+unfoldable pub verdict_line : ℕ → Verdict → Option BytePlace → List ℕ
 verdict_line at (Fresh i p) s = []
 verdict_line at (Repeat i p) s = []
 verdict_line at (NotTaken r) s = refusal_line at r s
 
 -- where a chunk broke that was offered to x
-abbrev pub broke_at : Head → Session → List ℕ → Spot
+abbrev pub broke_at : Head → Session → List ℕ → Option BytePlace
 broke_at h x c = spot_of h c (verdict_of h x c)
 
 -- and the line of that offer
@@ -179,16 +176,16 @@ listing_checks d out = (desk_wrong d, 71) ∷ (ltb (length out) roomy_text, 52) 
 
 -- what the call answers and leaves
 pub record Listed : Type 0 where
-  pub answer : Written
+  pub answer : Result ℕ Reason
   pub desk : Desk
   pub output : List ℕ
 
-abbrev pub listed_of : Written → Desk → List ℕ → Listed
+abbrev pub listed_of : Result ℕ Reason → Desk → List ℕ → Listed
 listed_of answer desk output = record { answer = answer; desk = desk; output = output }
 
 unfoldable pub listed : List ℕ → Desk → List ℕ → Listed
 listed f d out = record {
-  answer = checked (listing_checks d out) Refused (Bytes (length (listing_of f)));
+  answer = checked (listing_checks d out) Err (Ok (length (listing_of f)));
   desk = checked (listing_checks d out) (λ (r : Reason). d) (cleared d);
   output = checked (listing_checks d out) (λ (r : Reason). out) (put out 0 (listing_of f));
 }

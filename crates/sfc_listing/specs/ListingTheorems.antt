@@ -1,9 +1,9 @@
 -- What is proved of a listing beside demand 1: what an accepted file is made of, how its chunks are answered and where the program
 -- stops, and what its last line says of turn and release (document 01, "Resend note and listing"; document 02, [8]). Statements,
 -- proved in proofs/ListingTheorems.antt.
-use Rattle.std.specs.Prelude.{ℕ, ◌+◌, ◌*◌, ◌/◌, ◌≤◌, ◌≡◌, ◌↔◌, Bool, true, false, cond, List, [], ◌∷◌, ◌++◌, eqb, length, take, drop}
+use Rattle.std.specs.Prelude.{ℕ, ◌+◌, ◌*◌, ◌/◌, ◌≤◌, ◌≡◌, ◌↔◌, Bool, true, false, cond, List, [], ◌∷◌, ◌++◌, eqb, length, take, drop, Result, Ok, Err}
 use Rattle.sfc.specs.answer.Numbers.{verdict, number_of, reason_of}
-use Rattle.sfc.specs.answer.Places.{place}
+use Rattle.sfc.specs.answer.Places.{place, complete}
 use Rattle.sfc.specs.format.Header.{region_of, trailer_of, head_of}
 use Rattle.sfc.specs.session.Lent.{Lent}
 use Rattle.sfc.specs.session.Session.{Session, blank, verdict_of}
@@ -18,11 +18,9 @@ use Rattle.sfc_listing.specs.Text.{text}
 use Rattle.sfc_listing.specs.Listing.{between, session_in, told_in, program_checks, listing_of}
 use Rattle.sfc.specs.declared.format.header.Head.{Head}
 use Rattle.sfc.specs.declared.answer.reason.Reason.{Reason}
-use Rattle.sfc.specs.declared.answer.reason.Checked.TheVariants.{Good}
 use Rattle.sfc.specs.declared.session.offer.Verdict.{Verdict}
 use Rattle.sfc.specs.declared.session.offer.Verdict.TheVariants.{Fresh, Repeat, Refused}
-use Rattle.sfc.specs.declared.give.release.HandedOut.{HandedOut}
-use Rattle.sfc.specs.declared.give.release.HandedOut.TheVariants.{Complete, Refused as NotHandedOut}
+use Rattle.sfc.specs.declared.give.release.Complete.{Complete}
 
 -- ---- a file
 
@@ -35,7 +33,7 @@ session_of_file f = session_in (head_in f) f
 
 -- it is accepted, within the program's limits
 abbrev pub Accepted : List ℕ → Type 0
-Accepted f = verdict (program_checks (head_in f) f) ≡ Good
+Accepted f = verdict (program_checks (head_in f) f) ≡ Ok tt
 
 -- the chunks that are offered, and the bytes after them, up to the trailer
 abbrev pub offers_in : List ℕ → List (List ℕ)
@@ -63,7 +61,7 @@ pub record RoomIn (f : List ℕ) (l : Lent) : Type 0 where
 abbrev pub whole_turn : List ℕ → Lent → Turning
 whole_turn f l = turn (head_in f) (session_of_file f).store (session_of_file f).marks l.scratch l.numbers 0 ((head_in f).s / 2)
 
-abbrev pub handed_out : List ℕ → Lent → HandedOut
+abbrev pub handed_out : List ℕ → Lent → Result Complete Reason
 handed_out f l =
     (release (head_in f) (session_of_file f).store (session_of_file f).marks (whole_turn f l).scratch (whole_turn f l).finished l.output).answer
 
@@ -106,10 +104,10 @@ pub record ListingTheorems : Type 0 where
   -- The last line says what a release answers after a turn for all columns, whatever memory of the right size they are lent:
   -- `complete` exactly where it gives the content,
   pub last_line_complete : (f : List ℕ) → Accepted f → (l : Lent) → RoomIn f l
-      → (last_line (listing_of f) ≡ text "complete") ↔ (handed_out f l ≡ Complete (place (head_in f).size))
+      → (last_line (listing_of f) ≡ text "complete") ↔ (handed_out f l ≡ Ok (complete (place (head_in f).size)))
   -- `hash differs` exactly where it is refused by 51,
   pub last_line-hash_differs : (f : List ℕ) → Accepted f → (l : Lent) → RoomIn f l
-      → (last_line (listing_of f) ≡ text "hash differs") ↔ (handed_out f l ≡ NotHandedOut (reason_of 51))
+      → (last_line (listing_of f) ≡ text "hash differs") ↔ (handed_out f l ≡ Err (reason_of 51))
   -- and `incomplete` exactly where it is refused by 50.
   pub last_line_incomplete : (f : List ℕ) → Accepted f → (l : Lent) → RoomIn f l
-      → (last_line (listing_of f) ≡ text "incomplete") ↔ (handed_out f l ≡ NotHandedOut (reason_of 50))
+      → (last_line (listing_of f) ≡ text "incomplete") ↔ (handed_out f l ≡ Err (reason_of 50))

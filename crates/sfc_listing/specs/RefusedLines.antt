@@ -1,6 +1,6 @@
 -- The refused lines of a listing (document 02, [4]): which there are, in which order, what each says, and when there is none.
 -- Statements, proved in proofs/RefusedLines.antt, of any accepted file.
-use Rattle.std.specs.Prelude.{ℕ, ◌+◌, ◌≡◌, List, [], ◌∷◌, ◌++◌, map, length, get_or, take, drop}
+use Rattle.std.specs.Prelude.{ℕ, ◌+◌, ◌≡◌, List, [], ◌∷◌, ◌++◌, map, length, get_or, take, drop, Option, Some, None}
 use Rattle.sfc.specs.answer.Numbers.{number_of}
 use Rattle.sfc.specs.format.Header.{length_field}
 use Rattle.sfc.specs.session.Session.{Session, blank, verdict_of, after}
@@ -14,8 +14,6 @@ use Rattle.sfc_listing.specs.ListingTheorems.{answers_in, is_refused, lines_of}
 use Rattle.sfc.specs.declared.format.header.Head.{Head}
 use Rattle.sfc.specs.declared.answer.reason.Reason.{Reason}
 use Rattle.sfc.specs.declared.answer.places.BytePlace.{BytePlace}
-use Rattle.sfc.specs.declared.answer.places.Spot.{Spot}
-use Rattle.sfc.specs.declared.answer.places.Spot.TheVariants.{At, Nowhere}
 use Rattle.sfc.specs.declared.session.offer.Verdict.{Verdict}
 use Rattle.sfc.specs.declared.session.offer.Verdict.TheVariants.{Fresh, Repeat, Refused}
 
@@ -28,11 +26,11 @@ abbrev pub break_text : Break → List ℕ
 break_text b = broken_text b.number b.place
 
 -- that of an offer, if it has one: the chunk's own place `at` and the place in it together
-unfoldable pub break_of : ℕ → Verdict → Spot → List Break
+unfoldable pub break_of : ℕ → Verdict → Option BytePlace → List Break
 break_of at (Fresh i p) s = []
 break_of at (Repeat i p) s = []
-break_of at (Refused r) Nowhere = []
-break_of at (Refused r) (At p) = record { number = number_of r; place = at + p.0 } ∷ []
+break_of at (Refused r) None = []
+break_of at (Refused r) (Some p) = record { number = number_of r; place = at + p.0 } ∷ []
 
 -- those of offers that stand one after the other in the file, in the order met
 unfoldable pub breaks_in : Head → Session → ℕ → List (List ℕ) → List Break
@@ -55,7 +53,7 @@ pub record RefusedLines : Type 0 where
   -- for each refusal before it. With no line more than `line-count` says, these are all.
   pub each-told : (f : List ℕ) → Accepted f → (cs ds : List (List ℕ)) (c : List ℕ) (r : Reason)
       → told_in (head_in f) (between f) ≡ cs ++ (c ∷ ds) → verdict_of (head_in f) (after_all (head_in f) (blank (head_in f)) cs) c ≡ Refused r
-      → (p : BytePlace) × (broke_at (head_in f) (after_all (head_in f) (blank (head_in f)) cs) c ≡ At p)
+      → (p : BytePlace) × (broke_at (head_in f) (after_all (head_in f) (blank (head_in f)) cs) c ≡ Some p)
       × (get_or (lines_of (listing_of f)) (2 + count is_refused (verdicts (head_in f) (blank (head_in f)) cs)) []
       ≡ broken_text (number_of r) (length_field f + 12 + length_of_all cs + p.0))
   -- Where each chunk is fresh or a repeat, and the trailer comes right after the last, the listing has no such line.

@@ -1,206 +1,139 @@
-// The listing's text, piece by piece: each piece is put at a place of the output, and the place after it comes back.
-ghost use Rattle.std.specs.Prelude.{◌≡◌, ◌++◌, ◌+◌, ◌*◌, ◌%◌, ◌<◌, ◌≤◌, length};
-ghost use Rattle.sfc_listing.specs.Text.{decimal, hex_digit, hex, line};
+// The listing's lines, each put to the end of a page.
+ghost use Rattle.std.specs.Prelude.{◌≡◌, ◌%◌, ◌*◌, ◌≤◌, length};
+ghost use Rattle.sfc.specs.answer.Numbers.{number_of};
+ghost use Rattle.sfc_listing.specs.Text.{line};
 ghost use Rattle.sfc_listing.specs.Listing.{refused_text, refusal_line, verdict_line, uuid_line, shape_line, counts_line, head_text};
-ghost use Rattle.sfc_listing.specs.Lines.{word_of, range_line, bounds_lines, end_lines, end_room, Appended, Printed};
+ghost use Rattle.sfc_listing.specs.Lines.{word_of, range_line, bounds_lines, end_lines, end_room};
+ghost use Rattle.sfc_listing.specs.Page.{HasRoom, Puts};
 
-use sfc::{Reason, Spot, Verdict, number_of};
+use crate::page::Page;
+use sfc::{BytePlace, Head, MarksCounted, Reason, Verdict};
 
 // How the release ends.
-#[derive(Drop)]
+#[derive(Clone, Copy)]
 pub(crate) enum LastWord {
     Complete,
     HashDiffers,
     Incomplete,
 }
 
-fn put_text(text: &[u8], out: &mut [u8], at: usize) -> usize
-    requires { at + length text.now ≤ length out.old }
-    ensures { Appended (length text.now) out.old at text.now result out.new }
-{
-    let end = at + text.len();
-    little::copy(text, &mut out[at..end]);
-    end
-}
-
-// The digits come last first, so they are gathered from the back.
-fn put_decimal(v: u64, out: &mut [u8], at: usize) -> usize
-    requires { at + 20 ≤ length out.old }
-    ensures { Appended 20 out.old at (decimal v) result out.new }
-{
-    let mut digits = [0u8; 20];
-    let mut rest = v;
-    let mut i = 20;
-    while 9 < rest {
-        i -= 1;
-        digits[i] = 48 + (rest % 10) as u8;
-        rest = rest / 10;
-    }
-    i -= 1;
-    digits[i] = 48 + rest as u8;
-    put_text(&digits[i..], out, at)
-}
-
-fn hex_digit(v: u8) -> u8
-    requires { v < 16 }
-    ensures { result ≡ hex_digit v }
-{
-    if v < 10 {
-        return 48 + v;
-    }
-    87 + v
-}
-
-fn put_hex(b: &[u8], out: &mut [u8], at: usize) -> usize
-    requires { at + 2 * length b.now ≤ length out.old }
-    ensures { Appended (2 * length b.now) out.old at (hex b.now) result out.new }
-{
-    let mut to = at;
-    let mut i = 0;
-    while i < b.len() {
-        out[to] = hex_digit(b[i] / 16);
-        out[to + 1] = hex_digit(b[i] % 16);
-        to += 2;
-        i += 1;
-    }
-    to
-}
-
-// A value after the text that names it.
-fn put_value(name: &[u8], v: u64, out: &mut [u8], at: usize) -> usize
-    requires { at + (length name.now + 20) ≤ length out.old }
-    ensures { Appended (length name.now + 20) out.old at (name.now ++ decimal v) result out.new }
-{
-    let after = put_text(name, out, at);
-    put_decimal(v, out, after)
-}
-
-fn put_uuid(uuid: [u8; 16], out: &mut [u8], at: usize) -> usize
-    requires { at + 42 ≤ length out.old }
-    ensures { Appended 42 out.old at (uuid_line uuid) result out.new }
-{
-    let after = put_text(b"sfc uuid=", out, at);
-    let end = put_hex(&uuid, out, after);
-    put_text(b"\n", out, end)
-}
-
-fn put_shape(n: u32, m: u32, size: u64, s: u32, out: &mut [u8], at: usize) -> usize
-    requires { at + 111 ≤ length out.old }
-    ensures { Appended 111 out.old at (shape_line n m size s) result out.new }
-{
-    let recovery = put_value(b"blocks=", n as u64, out, at);
-    let content = put_value(b" recovery=", m as u64, out, recovery);
-    let block = put_value(b" size=", size, out, content);
-    let end = put_value(b" block=", s as u64, out, block);
-    put_text(b"\n", out, end)
-}
-
-fn put_counts(held: usize, barred: usize, out: &mut [u8], at: usize) -> usize
-    requires { at + 54 ≤ length out.old }
-    ensures { Appended 54 out.old at (counts_line held barred) result out.new }
-{
-    let after = put_value(b"held=", held as u64, out, at);
-    let end = put_value(b" barred=", barred as u64, out, after);
-    put_text(b"\n", out, end)
-}
-
-fn put_range(first: u32, last: u32, out: &mut [u8], at: usize) -> usize
-    requires { at + 50 ≤ length out.old }
-    ensures { Appended 50 out.old at (range_line first last) result out.new }
-{
-    let after = put_value(b"missing ", first as u64, out, at);
-    let end = put_value(b"-", last as u64, out, after);
-    put_text(b"\n", out, end)
-}
-
-fn put_missing(bounds: &[u32], out: &mut [u8], at: usize) -> usize
-    requires { (length bounds.now % 2 ≡ 0) × (at + 25 * length bounds.now ≤ length out.old) }
-    ensures { Appended (25 * length bounds.now) out.old at (bounds_lines bounds.now) result out.new }
-{
-    let mut to = at;
-    let mut i = 0;
-    while i < bounds.len() {
-        to = put_range(bounds[i], bounds[i + 1], out, to);
-        i += 2;
-    }
-    to
-}
-
-fn put_word(last: LastWord, out: &mut [u8], at: usize) -> usize
-    requires { at + 13 ≤ length out.old }
-    ensures { Appended 13 out.old at (line (word_of last)) result out.new }
-{
-    match last {
-        LastWord::Complete => put_text(b"complete\n", out, at),
-        LastWord::HashDiffers => put_text(b"hash differs\n", out, at),
-        LastWord::Incomplete => put_text(b"incomplete\n", out, at),
-    }
-}
-
-// The one line of a file that is refused.
-pub(crate) fn put_refused(number: u8, out: &mut [u8]) -> usize
-    requires { 29 ≤ length out.old }
-    ensures { Printed result out.old out.new (refused_text number) }
-{
-    let end = put_value(b"refused ", number as u64, out, 0);
-    put_text(b"\n", out, end)
-}
-
-// A refused chunk's line; `own` is where the chunk begins in the file.
-fn put_refusal(reason: Reason, spot: Spot, own: usize, out: &mut [u8], at: usize) -> usize
-    requires { (own ≤ 65536) × (at + 50 ≤ length out.old) }
-    ensures { Appended 50 out.old at (refusal_line own reason spot) result out.new }
-{
-    let after = put_value(b"refused ", number_of(reason) as u64, out, at);
-    match spot {
-        Spot::At(place) => {
-            let end = put_value(b" ", own as u64 + place.0 as u64, out, after);
-            put_text(b"\n", out, end)
+impl LastWord {
+    fn line(self) -> &'static str
+        ensures { result.now ≡ line (word_of self) }
+    {
+        match self {
+            LastWord::Complete => "complete\n",
+            LastWord::HashDiffers => "hash differs\n",
+            LastWord::Incomplete => "incomplete\n",
         }
-        Spot::Nowhere => put_text(b"\n", out, after),
     }
 }
 
-// What was taken has no line.
-pub(crate) fn put_verdict(
-    verdict: Verdict,
-    spot: Spot,
-    own: usize,
-    out: &mut [u8],
-    at: usize,
-) -> usize
-    requires { (own ≤ 65536) × (at + 50 ≤ length out.old) }
-    ensures { Appended 50 out.old at (verdict_line own verdict spot) result out.new }
-{
-    match verdict {
-        Verdict::Fresh(_, _) => at,
-        Verdict::Repeat(_, _) => at,
-        Verdict::Refused(reason) => put_refusal(reason, spot, own, out, at),
+impl<'a> Page<'a> {
+    fn put_uuid(&mut self, uuid: [u8; 16])
+        requires { HasRoom 42 self.old }
+        ensures { Puts 42 self.old (uuid_line uuid) self.new }
+    {
+        self.put("sfc uuid=");
+        self.put_hex(&uuid);
+        self.put("\n");
     }
-}
 
-// The lines before the refused ones.
-pub(crate) fn put_head(uuid: [u8; 16], size: u64, n: u32, m: u32, s: u32, out: &mut [u8]) -> usize
-    requires { 153 ≤ length out.old }
-    ensures { Appended 153 out.old 0 (head_text uuid n m size s) result out.new }
-{
-    let shape = put_uuid(uuid, out, 0);
-    put_shape(n, m, size, s, out, shape)
-}
+    fn put_shape(&mut self, h: Head)
+        requires { HasRoom 111 self.old }
+        ensures { Puts 111 self.old (shape_line h.n h.m h.size h.s) self.new }
+    {
+        self.put_value("blocks=", h.n as u64);
+        self.put_value(" recovery=", h.m as u64);
+        self.put_value(" size=", h.size);
+        self.put_value(" block=", h.s as u64);
+        self.put("\n");
+    }
 
-// The lines after them; `bounds` has first and last of each missing range, one after the other.
-pub(crate) fn put_end(
-    held: usize,
-    barred: usize,
-    bounds: &[u32],
-    last: LastWord,
-    out: &mut [u8],
-    at: usize,
-) -> usize
-    requires { (at + end_room ≤ length out.old) × (length bounds.now ≤ 1024) × (length bounds.now % 2 ≡ 0) }
-    ensures { Appended end_room out.old at (end_lines held barred bounds.now last) result out.new }
-{
-    let missing = put_counts(held, barred, out, at);
-    let end = put_missing(bounds, out, missing);
-    put_word(last, out, end)
+    fn put_counts(&mut self, counted: MarksCounted)
+        requires { HasRoom 54 self.old }
+        ensures { Puts 54 self.old (counts_line counted.held counted.barred) self.new }
+    {
+        self.put_value("held=", counted.held as u64);
+        self.put_value(" barred=", counted.barred as u64);
+        self.put("\n");
+    }
+
+    fn put_range(&mut self, first: u32, last: u32)
+        requires { HasRoom 50 self.old }
+        ensures { Puts 50 self.old (range_line first last) self.new }
+    {
+        self.put_value("missing ", first as u64);
+        self.put_value("-", last as u64);
+        self.put("\n");
+    }
+
+    fn put_missing(&mut self, bounds: &[u32])
+        requires even { length bounds.now % 2 ≡ 0 }
+        requires room { HasRoom (25 * length bounds.now) self.old }
+        ensures { Puts (25 * length bounds.now) self.old (bounds_lines bounds.now) self.new }
+    {
+        let (ranges, _) = bounds.as_chunks::<2>();
+        for range in ranges {
+            self.put_range(range[0], range[1]);
+        }
+    }
+
+    // The one line of a file that is refused.
+    pub(crate) fn put_refused(&mut self, reason: Reason)
+        requires { HasRoom 29 self.old }
+        ensures { Puts 29 self.old (refused_text (number_of reason)) self.new }
+    {
+        self.put_value("refused ", u8::from(reason) as u64);
+        self.put("\n");
+    }
+
+    // A refused chunk's line; `own` is where the chunk begins in the file.
+    fn put_refusal(&mut self, reason: Reason, spot: Option<BytePlace>, own: usize)
+        requires own { own ≤ 65536 }
+        requires room { HasRoom 50 self.old }
+        ensures { Puts 50 self.old (refusal_line own reason spot) self.new }
+    {
+        match spot {
+            Some(place) => {
+                self.put_value("refused ", u8::from(reason) as u64);
+                self.put_value(" ", own as u64 + place.0 as u64);
+                self.put("\n");
+            }
+            None => self.put_refused(reason),
+        }
+    }
+
+    // What was taken has no line.
+    pub(crate) fn put_verdict(&mut self, verdict: Verdict, spot: Option<BytePlace>, own: usize)
+        requires own { own ≤ 65536 }
+        requires room { HasRoom 50 self.old }
+        ensures { Puts 50 self.old (verdict_line own verdict spot) self.new }
+    {
+        match verdict {
+            Verdict::Fresh(_, _) | Verdict::Repeat(_, _) => {}
+            Verdict::Refused(reason) => self.put_refusal(reason, spot, own),
+        }
+    }
+
+    // The lines before the refused ones.
+    pub(crate) fn put_head(&mut self, h: Head)
+        requires { HasRoom 153 self.old }
+        ensures { Puts 153 self.old (head_text h.uuid h.n h.m h.size h.s) self.new }
+    {
+        self.put_uuid(h.uuid);
+        self.put_shape(h);
+    }
+
+    // The lines after them; `bounds` has first and last of each missing range, one after the other.
+    pub(crate) fn put_end(&mut self, counted: MarksCounted, bounds: &[u32], last: LastWord)
+        requires few { length bounds.now ≤ 1024 }
+        requires even { length bounds.now % 2 ≡ 0 }
+        requires room { HasRoom end_room self.old }
+        ensures { Puts end_room self.old (end_lines counted.held counted.barred bounds.now last) self.new }
+    {
+        self.put_counts(counted);
+        self.put_missing(bounds);
+        self.put(last.line());
+    }
 }

@@ -29,8 +29,3 @@ pub(crate) const LENGTH_AT: usize = 8;
 pub(crate) const AFTER_LENGTH: usize = 12;
 
 pub(crate) const TRAILER: usize = 64;
-
-// The number of a file above the program's limits, and of a content whose hash is not the header's.
-pub(crate) const ABOVE_LIMITS: u8 = 15;
-
-pub(crate) const HASH_DIFFERS: u8 = 51;

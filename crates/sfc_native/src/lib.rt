@@ -1,22 +1,21 @@
-// Turn, release and writer under C names, for programs in other languages and for measuring: an answer goes out as a number.
+// Turn, release and writer under C names, for programs in other languages and for measuring: an answer goes out as a number,
+// since C has no `Result`, and what is lent comes in piece by piece, since the C interface has no struct for it.
 #![tactic(auto)]
 
 ghost use Rattle.std.specs.Prelude.{◌≡◌};
 ghost use Rattle.sfc.specs.answer.Numbers.{answered};
 ghost use Rattle.sfc.specs.writing.Writer.{write_file};
-ghost use Rattle.sfc_native.specs.Answers.{turn_number, release_number, outcome, turn_of, release_of, length_for, measured, input_from};
+ghost use Rattle.sfc_native.specs.Answers.{answer_number, outcome, turn_of, release_of, length_for, measured, input_from};
 
-use sfc::{
-    Checked, ColumnCount, FileFacts, HandedOut, Turned, Written, number_of, read_header,
-    rebuild_turn, release, write,
-};
+use sfc::{ColumnCount, FileFacts, Reason, read_header, rebuild_turn, release, write};
 
-fn turn_number(turned: Turned) -> u8
-    ensures { result ≡ turn_number turned }
+// What was done goes out as 0, a refusal as its number.
+fn answer_number<T: Copy>(answer: Result<T, Reason>) -> u8
+    ensures { result ≡ answer_number answer }
 {
-    match turned {
-        Turned::Did(_) => 0,
-        Turned::Refused(reason) => number_of(reason),
+    match answer {
+        Ok(_) => 0,
+        Err(refusal) => u8::from(refusal),
     }
 }
 
@@ -35,26 +34,15 @@ pub extern "C" fn sfc_turn(
     ensures { outcome result finished.new scratch.new numbers.new ≡ turn_of file.now store.now marks.now scratch.old numbers.old finished.old budget }
 {
     let read = read_header(file);
-    let verdict = read.verdict;
-    match verdict {
-        Checked::Refused(reason) => number_of(reason),
-        Checked::Good => {
-            let head = read.head;
+    match read {
+        Err(reason) => u8::from(reason),
+        Ok(head) => {
             let done = ColumnCount(*finished);
             let answer = rebuild_turn(head, store, marks, scratch, numbers, done, budget);
             let turned = answer.turned;
             *finished = answer.finished.0;
-            turn_number(turned)
+            answer_number(turned)
         }
-    }
-}
-
-fn release_number(handed: HandedOut) -> u8
-    ensures { result ≡ release_number handed }
-{
-    match handed {
-        HandedOut::Complete(_) => 0,
-        HandedOut::Refused(reason) => number_of(reason),
     }
 }
 
@@ -71,26 +59,24 @@ pub extern "C" fn sfc_release(
     ensures { outcome result finished.new scratch.new out.new ≡ release_of file.now store.now marks.now scratch.old finished.old out.old }
 {
     let read = read_header(file);
-    let verdict = read.verdict;
-    match verdict {
-        Checked::Refused(why) => number_of(why),
-        Checked::Good => {
-            let head = read.head;
+    match read {
+        Err(why) => u8::from(why),
+        Ok(head) => {
             let done = ColumnCount(*finished);
             let released = release(head, store, marks, scratch, done, out);
             let handed = released.handed;
             *finished = released.finished.0;
-            release_number(handed)
+            answer_number(handed)
         }
     }
 }
 
-fn length_or_number(written: Written) -> u64
+fn length_or_number(written: Result<usize, Reason>) -> u64
     ensures { result ≡ length_for written }
 {
     match written {
-        Written::Bytes(length) => length as u64,
-        Written::Refused(reason) => number_of(reason) as u64,
+        Ok(length) => length as u64,
+        Err(reason) => u8::from(reason) as u64,
     }
 }
 

@@ -10,9 +10,10 @@ use Rattle.sfc.specs.answer.Numbers.{passes}
 use Rattle.sfc.specs.format.Chunk.{chunk_length, measure_checks}
 use Rattle.sfc.specs.declared.format.header.Head.{Head}
 use Rattle.sfc.proofs.Laws.{measure_laws}
-use Rattle.sfc_walk.specs.Walk.{front_length, chunks_in, chunks_of, length_of_all}
+use Rattle.std.specs.Prelude.{Some, None}
+use Rattle.sfc_walk.specs.Walk.{front_length, some_length, chunks_in, chunks_of, length_of_all}
 use Rattle.sfc_walk.specs.WalkTheorems.{concat}
-use Rattle.sfc_walk.proofs.StepLaws.{front_some, front_none, no_chunk, next_chunk}
+use Rattle.sfc_walk.proofs.StepLaws.{front_some, front_none, no_chunk, next_chunk, length_some, length_none}
 
 take_nothing : (n : ℕ) → take {A = ℕ} n [] ≡ []
 take_nothing zero = refl
@@ -104,3 +105,15 @@ module _ (h : Head) where
       let k : length (rest b) ≤ length b - 1 = omega (arith, f.inside, length-drop (chunk_length b) b) in
       let e = next_chunk h b (length b) (omega (arith, f.inside)) f.there ∙ ap (◌∷◌ (take (chunk_length b) b)) (same (length b - 1) (length (rest b)) (rest b) k (omega arith)) in
       (rw f.ends e, omega (arith, f.ends), omega (arith, f.ends, f.inside))
+
+  -- ---- and by what is answered of it
+
+  pub none_found : (b : List ℕ) → some_length (front_length h b) ≡ None → chunks_of h b ≡ []
+  none_found b e = none_front b (length_none _ e)
+
+  pub next_found : (b : List ℕ) (k : ℕ) → some_length (front_length h b) ≡ Some k
+      → (chunks_of h b ≡ take k b ∷ chunks_of h (drop k b)) × (84 ≤ k) × (k ≤ length b)
+  next_found b k e =
+      let f = length_some _ k e in
+      let n = next_front b f.1 in
+      (rw f.0 n.0, omega (arith, n.1, f.0), omega (arith, n.2, f.0))

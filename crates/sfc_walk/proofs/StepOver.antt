@@ -1,5 +1,6 @@
 -- How the chunks of a walk are answered, and what comes after the last: a chunk that was measured is whole when it is cut out, and
 -- so few are offered that no tally fills. Assumes nothing.
+use Rattle.std.specs.Prelude.{Ok, Err}
 use Prim.Native.Nat.{ℕ, zero, suc, ◌+◌, ◌*◌, ◌<◌, ◌≤◌}
 use mathlib.Core.Path.{◌≡◌, refl, ap, ap₂, ◌∙◌}
 use mathlib.Core.Bool.{Bool, true, false, cond, ◌&&◌, true≢false}
@@ -22,7 +23,6 @@ use Rattle.sfc_walk.specs.Walk.{chunks_in, chunks_of, length_of_all}
 use Rattle.sfc_walk.specs.WalkTheorems.{stepped_over, each}
 use Rattle.sfc.specs.declared.format.header.Head.{Head}
 use Rattle.sfc.specs.declared.answer.reason.Reason.{Reason}
-use Rattle.sfc.specs.declared.answer.reason.Checked.TheVariants.{Good, Refused as Wrong}
 use Rattle.sfc.specs.declared.session.offer.Verdict.{Verdict}
 use Rattle.sfc.specs.declared.session.offer.Verdict.TheVariants.{Fresh, Repeat, Refused}
 use Rattle.sfc.proofs.Laws.{check_laws, measure_laws, offer_laws}
@@ -47,7 +47,7 @@ stepped_over_lem ((true, k) ∷ cs) good n g = n.0
 stepped_over_lem ((false, k) ∷ cs) good n g = stepped_over_lem cs good n.1 g
 
 -- a list of checks that does not pass refuses
-refuses : (cs : List Check) → passes cs ≡ false → (r : Reason) × (verdict cs ≡ Wrong r)
+refuses : (cs : List Check) → passes cs ≡ false → (r : Reason) × (verdict cs ≡ Err r)
 refuses [] e = absurd (true≢false e)
 refuses ((true, k) ∷ cs) e = (reason_of k, refl)
 refuses ((false, k) ∷ cs) e = refuses cs e
@@ -65,7 +65,7 @@ module _ (h : Head) where
     same_length : payload_length cut ≡ payload_length b
     same_length = byte_laws.le-part 4 b 0 (chunk_length b) 28 (omega arith)
 
-    cut_good : verdict (length_checks h.s cut) ≡ Good
+    cut_good : verdict (length_checks h.s cut) ≡ Ok tt
     cut_good =
         let p = (check_laws.passed (measure_checks h b) (check_laws.passes_good (measure_checks h b) there)).1 in
         check_laws.all-passed (length_checks h.s cut) (
@@ -76,7 +76,7 @@ module _ (h : Head) where
   -- all chunks of a walk are such, and no more than it may find
   abbrev Whole : List (List ℕ) → Type 0
   Whole [] = Unit {0}
-  Whole (c ∷ cs) = (verdict (length_checks h.s c) ≡ Good) × Whole cs
+  Whole (c ∷ cs) = (verdict (length_checks h.s c) ≡ Ok tt) × Whole cs
 
   walk_whole : (most : ℕ) (b : List ℕ) → Whole (chunks_in most h b)
   unfolding chunks_in
@@ -108,12 +108,12 @@ module _ (h : Head) where
     welcome true = refl
     welcome false = refl
 
-    whole-answered : verdict (length_checks h.s c) ≡ Good → stepped_over (verdict_of h x c) ≡ true
+    whole-answered : verdict (length_checks h.s c) ≡ Ok tt → stepped_over (verdict_of h x c) ≡ true
     whole-answered g =
         ap stepped_over (offer_laws.past_two h x c lent room ∙ check_laws.good_then Refused (length_checks h.s c) others (welcomed h x c) g)
         ∙ stepped_over_lem others (welcomed h x c) (refl, (refl, (refl, (refl, (refl, (refl, (refl, (refl, (refl, (refl, tt)))))))))) (welcome (eqb (mark x (index_of c)) 0))
 
-    length_refused : (r : Reason) → verdict (length_checks h.s c) ≡ Wrong r → (verdict_of h x c ≡ Refused r) × (30 ≤ number_of r) × (number_of r ≤ 32)
+    length_refused : (r : Reason) → verdict (length_checks h.s c) ≡ Err r → (verdict_of h x c ≡ Refused r) × (30 ≤ number_of r) × (number_of r ≤ 32)
     length_refused r e =
         let n = check_laws.number_in (λ (k : ℕ). (30 ≤ k) × (k ≤ 32)) (length_checks h.s c) r
         ((lit≤ tt, lit≤ tt), ((lit≤ tt, lit≤ tt), ((lit≤ tt, lit≤ tt), ((lit≤ tt, lit≤ tt), tt)))) e in

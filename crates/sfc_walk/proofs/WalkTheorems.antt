@@ -12,7 +12,7 @@ use Rattle.sfc.proofs.Laws.{offer_laws}
 use Rattle.sfc_walk.specs.Walk.{chunks_of, walk_over}
 use Rattle.sfc_walk.specs.WalkTheorems.{WalkTheorems}
 use Rattle.sfc_walk.proofs.StepLaws.{no_chunk, next_chunk}
-use Rattle.sfc_walk.proofs.FoundLaws.{found, same, none_front, next_front}
+use Rattle.sfc_walk.proofs.FoundLaws.{found, same, none_front, next_front, none_found, next_found}
 use Rattle.sfc_walk.proofs.StepOver.{walk_few, walk_answered, walk_ends}
 
 walk_session : (h : Head) (y : Logged) (b : List ℕ) → beside_wrong h y ≡ false → (walk_over h y b).kept.session ≡ after_all h y.session (chunks_of h b)
@@ -30,6 +30,8 @@ walk_theorems = record {
   next_chunk = next_chunk;
   front_none = none_front;
   front_next = next_front;
+  none_found = none_found;
+  next_found = next_found;
   chunks-answered = walk_answered;
   end-answered = walk_ends;
   walk_session = walk_session;

@@ -1,6 +1,6 @@
 -- The chunks that stand one after the other from the front of some bytes (document 01, "Resend note and listing"), and what is kept
 -- once each of them was offered. Assumes nothing: these are definitions.
-use Rattle.std.specs.Prelude.{ℕ, zero, suc, ◌+◌, cond, List, [], ◌∷◌, length, take, drop}
+use Rattle.std.specs.Prelude.{ℕ, zero, suc, ◌+◌, cond, List, [], ◌∷◌, length, take, drop, Option, Some, None}
 use Rattle.sfc.specs.answer.Numbers.{passes}
 use Rattle.sfc.specs.format.Chunk.{chunk_length, measure_checks}
 use Rattle.sfc.specs.session.Offer.{Logged, logged_of, logged_all}
@@ -10,6 +10,11 @@ use Rattle.sfc.specs.declared.session.tallies.Tallies.{Tallies}
 -- how many bytes the chunk at the front of b takes up; 0 where 71, 30, 31 or 32 refuses it
 unfoldable pub front_length : Head → List ℕ → ℕ
 front_length h b = cond (passes (measure_checks h b)) (chunk_length b) 0
+
+-- the same where there is one: no chunk has length 0 (WalkTheorems: `front_next`)
+unfoldable pub some_length : ℕ → Option ℕ
+some_length zero = None
+some_length (suc n) = Some (suc n)
 
 -- the chunks that are offered: what measuring refuses is the end, and all else is stepped over by its length, whatever the offer
 -- answers; the first argument only bounds how many there are (WalkTheorems)

@@ -1,5 +1,5 @@
 -- What is proved of the walk: statements, of any head and any bytes. Proved in proofs/WalkTheorems.antt.
-use Rattle.std.specs.Prelude.{ℕ, ◌+◌, ◌-◌, ◌<◌, ◌≤◌, ◌≡◌, ◌≢◌, Bool, true, false, ◌&&◌, List, [], ◌∷◌, ◌++◌, leb, length, take, drop}
+use Rattle.std.specs.Prelude.{ℕ, ◌+◌, ◌-◌, ◌<◌, ◌≤◌, ◌≡◌, ◌≢◌, Bool, true, false, ◌&&◌, List, [], ◌∷◌, ◌++◌, leb, length, take, drop, Some, None}
 use Rattle.sfc.specs.answer.Numbers.{passes, number_of}
 use Rattle.sfc.specs.format.Chunk.{chunk_length, measure_checks}
 use Rattle.sfc.specs.session.Tallies.{total}
@@ -10,7 +10,7 @@ use Rattle.sfc.specs.declared.format.header.Head.{Head}
 use Rattle.sfc.specs.declared.answer.reason.Reason.{Reason}
 use Rattle.sfc.specs.declared.session.offer.Verdict.{Verdict}
 use Rattle.sfc.specs.declared.session.offer.Verdict.TheVariants.{Fresh, Repeat, Refused}
-use Rattle.sfc_walk.specs.Walk.{front_length, chunks_in, chunks_of, length_of_all, walk_over}
+use Rattle.sfc_walk.specs.Walk.{front_length, some_length, chunks_in, chunks_of, length_of_all, walk_over}
 
 unfoldable pub concat : List (List ℕ) → List ℕ
 concat [] = []
@@ -39,12 +39,16 @@ pub record WalkTheorems : Type 0 where
   pub no_chunk : (h : Head) (b : List ℕ) (most : ℕ) → passes (measure_checks h b) ≡ false → chunks_in most h b ≡ []
   pub next_chunk : (h : Head) (b : List ℕ) (most : ℕ) → 0 < most → passes (measure_checks h b) ≡ true
       → chunks_in most h b ≡ take (chunk_length b) b ∷ chunks_in (most - 1) h (drop (chunk_length b) b)
-  -- The same step by the length that `length_at_front` tells: where it is 0 there is no chunk; else the first is so long, 84 bytes
+  -- The same step by the length at the front: where it is 0 there is no chunk; else the first is so long, 84 bytes
   -- at least, and the others are those of the bytes after it.
   pub front_none : (h : Head) (b : List ℕ) → front_length h b ≡ 0 → chunks_of h b ≡ []
   pub front_next : (h : Head) (b : List ℕ) → front_length h b ≢ 0
       → (chunks_of h b ≡ take (front_length h b) b ∷ chunks_of h (drop (front_length h b) b))
       × (84 ≤ front_length h b) × (front_length h b ≤ length b)
+  -- And by what it answers.
+  pub none_found : (h : Head) (b : List ℕ) → some_length (front_length h b) ≡ None → chunks_of h b ≡ []
+  pub next_found : (h : Head) (b : List ℕ) (k : ℕ) → some_length (front_length h b) ≡ Some k
+      → (chunks_of h b ≡ take k b ∷ chunks_of h (drop k b)) × (84 ≤ k) × (k ≤ length b)
   -- Where 71 has nothing against the session, and short of 43, each chunk is answered fresh, repeat or 33 to 42, and what is left
   -- after the last of them, be it nothing, would be refused by 30, 31 or 32.
   pub chunks-answered : (h : Head) (x : Session) (b : List ℕ) → session_wrong h x ≡ false → total x.tallies + length b < 4294967295

@@ -3,9 +3,9 @@
 
 ghost use Rattle.std.specs.Prelude.{◌≡◌};
 ghost use Rattle.sfc.specs.session.Offer.{logged_of};
-ghost use Rattle.sfc_walk.specs.Walk.{front_length, walk_of, walk_over};
+ghost use Rattle.sfc_walk.specs.Walk.{front_length, some_length, walk_of, walk_over};
 
-use sfc::{ChunkMeasured, ColumnCount, Head, Tallies, measure_chunk, offer};
+use sfc::{ColumnCount, Head, Tallies, measure_chunk, offer};
 
 // The tallies, how many rebuilt columns still count, and the place of the first byte that belongs to no chunk.
 #[derive(Clone, Copy)]
@@ -15,20 +15,17 @@ pub struct Walked {
     pub end: usize,
 }
 
-// How many bytes the chunk at the front takes up, and 0 where there is none. A caller that has more to do with each chunk than to
-// offer it walks by it with a loop of its own.
-pub fn length_at_front(h: Head, b: &[u8]) -> usize
-    ensures { result ≡ front_length h b.now }
+// How many bytes the chunk at the front takes up, where there is one. A caller that has more to do with each chunk than to offer
+// it walks by it with a loop of its own.
+pub fn length_at_front(h: Head, b: &[u8]) -> Option<usize>
+    ensures { result ≡ some_length (front_length h b.now) }
 {
-    let measured = measure_chunk(h, b);
-    match measured {
-        ChunkMeasured::Length(length) => length,
-        ChunkMeasured::Refused(_) => 0,
-    }
+    measure_chunk(h, b).ok()
 }
 
-// Each turn offers one chunk. What 71, 30, 31 or 32 refuses is no chunk, and the walk ends there; there are no more chunks than
-// bytes.
+// Each turn offers one chunk. What 71, 30, 31 or 32 refuses is no chunk, and the walk ends there. Each chunk says how long it is,
+// so no iterator cuts them. What is lent and handed on stands as in `sfc::offer`, one for one, as its promise and the tallies by
+// value in document 01 want it.
 pub fn offer_chunks(
     h: Head,
     tallies: Tallies,
@@ -40,29 +37,28 @@ pub fn offer_chunks(
 ) -> Walked
     ensures { walk_of store.new marks.new result.tallies scratch.new result.finished.0 result.end ≡ walk_over h (logged_of store.old marks.old tallies scratch.old finished.0) bytes.now }
 {
-    let mut counted = tallies;
-    let mut done = finished;
-    let mut at = 0;
-    let mut most = bytes.len();
-    while 0 < most {
-        let rest = &bytes[at..];
-        let length = length_at_front(h, rest);
-        if length == 0 {
-            return Walked {
-                tallies: counted,
-                finished: done,
-                end: at,
-            };
-        }
-        let answer = offer(h, counted, store, marks, scratch, done, &rest[..length]);
-        counted = answer.tallies;
-        done = answer.finished;
-        most -= 1;
-        at = at + length;
+    let mut walked = Walked {
+        tallies,
+        finished,
+        end: 0,
+    };
+    while let Some(length) = length_at_front(h, &bytes[walked.end..]) {
+        let end = walked.end + length;
+        let chunk = &bytes[walked.end..end];
+        let answer = offer(
+            h,
+            walked.tallies,
+            store,
+            marks,
+            scratch,
+            walked.finished,
+            chunk,
+        );
+        walked = Walked {
+            tallies: answer.tallies,
+            finished: answer.finished,
+            end,
+        };
     }
-    Walked {
-        tallies: counted,
-        finished: done,
-        end: at,
-    }
+    walked
 }

@@ -1,13 +1,12 @@
 -- `length_or_number` gives a length as it is, and a refusal its number. Assumes nothing.
 use mathlib.Core.Path.{sym, ap, ◌∙◌}
-use borrow.Author.Rules.{rules}
 use Rattle.sfc_native.specs.Answers.{length_for}
 use Rattle.sfc_native.proofs.length_or_number.Goals as goal
 
-pub returns-in-Bytes : goal.returns-in-Bytes
+pub returns-in-Ok : goal.returns-in-Ok
 unfolding length_for
-returns-in-Bytes c = sym (ap length_for c.in-Bytes.is)
+returns-in-Ok c = sym (ap length_for c.in-Ok.is)
 
-pub returns-in-Refused : goal.returns-in-Refused
+pub returns-in-Err : goal.returns-in-Err
 unfolding length_for
-returns-in-Refused c = c.number_of.ensures ∙ sym (ap length_for c.in-Refused.is)
+returns-in-Err c = c.from.ensures ∙ sym (ap length_for c.in-Err.is)

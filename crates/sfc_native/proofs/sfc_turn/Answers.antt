@@ -1,7 +1,6 @@
 -- `sfc_turn` hands on the number of a refused header, and else what `rebuild_turn` promises for the header that was read. Assumes nothing.
 use Prim.Native.Nat.{ℕ}
 use mathlib.Core.Path.{◌≡◌, ap, ◌∙◌}
-use borrow.Author.Rules.{rules}
 use Rattle.sfc.specs.give.Turns.{Turning, turn}
 use Rattle.sfc.specs.declared.format.header.Head.{Head}
 use Rattle.sfc_native.specs.Answers.{turn_number, outcome, turn_outcome}
@@ -12,15 +11,15 @@ use Rattle.sfc_native.proofs.sfc_turn.Goals as goal
 with_number : (k : ℕ) (z w : Turning) → k ≡ turn_number z.answer → z ≡ w → outcome k z.finished z.scratch z.numbers ≡ turn_outcome w
 with_number k z w e p = ap (λ (n : ℕ). outcome n z.finished z.scratch z.numbers) e ∙ ap turn_outcome p
 
-pub returns-in-Refused : goal.returns-in-Refused
-returns-in-Refused c =
+pub returns-in-Err : goal.returns-in-Err
+returns-in-Err c =
     let a = c.args in
     refused_header_lem a.file.now _ c.read_header-read.ensures a.finished.now a.scratch.now a.numbers.now
-    (λ (h : Head). turn_outcome (turn h a.store.now a.marks.now a.scratch.now a.numbers.now a.finished.now a.budget)) _ _ c.number_of.ensures c.in-Refused.is
+    (λ (h : Head). turn_outcome (turn h a.store.now a.marks.now a.scratch.now a.numbers.now a.finished.now a.budget)) _ _ c.from.ensures c.in-Err.is
 
-pub returns-in-Good : goal.returns-in-Good
-returns-in-Good c =
+pub returns-in-Ok : goal.returns-in-Ok
+returns-in-Ok c =
     let a = c.args in
     good_header a.file.now _ c.read_header-read.ensures a.finished.now a.scratch.now a.numbers.now
-    (λ (h : Head). turn_outcome (turn h a.store.now a.marks.now a.scratch.now a.numbers.now a.finished.now a.budget)) _ c.in-Good.is
-    (with_number _ _ _ c.turn_number.ensures c.rebuild_turn-answer.ensures)
+    (λ (h : Head). turn_outcome (turn h a.store.now a.marks.now a.scratch.now a.numbers.now a.finished.now a.budget)) _ _ c.in-Ok.is
+    (with_number _ _ _ c.answer_number.ensures c.rebuild_turn-answer.ensures)

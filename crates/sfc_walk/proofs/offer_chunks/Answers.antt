@@ -1,46 +1,52 @@
 -- `sfc_walk::offer_chunks` meets its contract. The loop's invariant: the chunks that are left make of what is kept by then what all
 -- of them make of what was kept at first. Assumes nothing.
-use mathlib.Core.Path.{refl, sym, ◌∙◌}
+use Prim.Native.Nat.{ℕ, ◌+◌, ◌<◌, ◌≤◌}
+use mathlib.Core.Path.{refl, ap, ◌∙◌}
+use native.Mathlib.Nat.{add-sub_cancel_left}
 use native.Mathlib.Omega.{arith}
-use lib.Seq.{length-take-le}
+use lib.ListN.{length, take, drop}
 use Rattle.little.proofs.Laws.{part_laws}
 use Rattle.sfc.specs.session.Offer.{logged_of}
-use Rattle.sfc_walk.proofs.LoopLaws.{walking_start, walking_inside, walking_end, walking_stop, front_inside, walking_on}
-use borrow.Author.Rules.{rules}
+use Rattle.sfc_walk.proofs.LoopLaws.{walking_start, walking_stop, front_inside, walking_on}
+use Rattle.sfc_walk.proofs.offer_chunks.Goals.{In-Some}
 use Rattle.sfc_walk.proofs.offer_chunks.Goals as goal
 
-pub loop-most-init : goal.loop-most-init
-loop-most-init c = let a = c.args in (walking_start a.h (logged_of a.store.now a.marks.now a.tallies a.scratch.now a.finished.0) a.bytes.now, refl, refl, refl, search rules)
+pub loop-length-init : goal.loop-length-init
+loop-length-init c = let a = c.args in (walking_start a.h (logged_of a.store.now a.marks.now a.tallies a.scratch.now a.finished.0) a.bytes.now, refl, refl, refl)
 
-pub slice_bounds-rest-count : goal.slice_bounds-rest-count
-slice_bounds-rest-count c = let a = c.args in let l = c.loop-most in omega (arith, walking_inside a.h (logged_of a.store.now a.marks.now a.tallies a.scratch.now a.finished.0) a.bytes.now l.most l.at (logged_of l.store l.marks l.counted l.scratch l.done.0) l.invariant.0)
-
-pub slice_bounds-rest-start : goal.slice_bounds-rest-start
-slice_bounds-rest-start c = let a = c.args in let l = c.loop-most in omega (arith, walking_inside a.h (logged_of a.store.now a.marks.now a.tallies a.scratch.now a.finished.0) a.bytes.now l.most l.at (logged_of l.store l.marks l.counted l.scratch l.done.0) l.invariant.0)
-
-pub returns-then-length-eq0 : goal.returns-then-length-eq0
-returns-then-length-eq0 c = let a = c.args in let l = c.loop-most in walking_stop a.h (logged_of a.store.now a.marks.now a.tallies a.scratch.now a.finished.0) a.bytes.now l.most l.at c.length_at_front-length.result _ (logged_of l.store l.marks l.counted l.scratch l.done.0) c.loop-most-test.true l.invariant.0 (part_laws.part-rest a.bytes.now l.at) c.length_at_front-length.ensures c.if-length-eq0.true
-
-pub slice_bounds-offer-end : goal.slice_bounds-offer-end
-slice_bounds-offer-end c =
+-- the chunk lies in the bytes
+inside : (c : In-Some) → (c.loop-length.walked.end + c.in-Some.length ≤ length c.args.bytes.now) × (0 < c.in-Some.length)
+inside c =
     let a = c.args in
-    let l = c.loop-most in
-    let f = front_inside a.h (logged_of a.store.now a.marks.now a.tallies a.scratch.now a.finished.0) a.bytes.now l.most l.at c.length_at_front-length.result _ (logged_of l.store l.marks l.counted l.scratch l.done.0) c.loop-most-test.true l.invariant.0 (part_laws.part-rest a.bytes.now l.at) c.length_at_front-length.ensures c.if-length-eq0.false in
-    sym (length-take-le _ _ f.0)
+    let l = c.loop-length in
+    front_inside a.h (logged_of a.store.now a.marks.now a.tallies a.scratch.now a.finished.0) a.bytes.now l.walked.end (logged_of l.store l.marks l.walked.tallies l.scratch l.walked.finished.0) _ l.invariant.0 (part_laws.part-rest a.bytes.now l.walked.end)
+    _ c.length_at_front.ensures c.in-Some.length c.in-Some.is
 
-pub overflow_add-at : goal.overflow_add-at
-overflow_add-at c =
-    let a = c.args in
-    let l = c.loop-most in
-    let f = front_inside a.h (logged_of a.store.now a.marks.now a.tallies a.scratch.now a.finished.0) a.bytes.now l.most l.at c.length_at_front-length.result _ (logged_of l.store l.marks l.counted l.scratch l.done.0) c.loop-most-test.true l.invariant.0 (part_laws.part-rest a.bytes.now l.at) c.length_at_front-length.ensures c.if-length-eq0.false in
-    record { fits = omega (arith, f.1, l.invariant.4) }
+pub overflow_add-end : goal.overflow_add-end
+overflow_add-end c = record { fits = omega (arith, (inside (goal.at.overflow_add-end c).In-Some).0) }
 
-pub loop-most-preserved : goal.loop-most-preserved
-loop-most-preserved c =
+pub slice_bounds-chunk-end : goal.slice_bounds-chunk-end
+slice_bounds-chunk-end c = omega (arith, (inside (goal.at.slice_bounds-chunk-end c).In-Some).0)
+
+pub loop-length-smaller : goal.loop-length-smaller
+loop-length-smaller c = omega (arith, inside (goal.at.loop-length-smaller c).In-Some)
+
+pub loop-length-preserved : goal.loop-length-preserved
+loop-length-preserved c =
     let a = c.args in
-    let l = c.loop-most in
-    let o = c.offer-answer in
-    (walking_on a.h (logged_of a.store.now a.marks.now a.tallies a.scratch.now a.finished.0) a.bytes.now l.most l.at c.length_at_front-length.result _ (logged_of l.store l.marks l.counted l.scratch l.done.0) c.loop-most-test.true l.invariant.0 (part_laws.part-rest a.bytes.now l.at) c.length_at_front-length.ensures c.if-length-eq0.false _ _ _ o.ensures, o.auto.store ∙ l.invariant.1, o.auto.marks ∙ l.invariant.2, o.auto.scratch ∙ l.invariant.3, l.invariant.4)
+    let l = c.loop-length in
+    let o = c.offer-answer in (
+      walking_on a.h (logged_of a.store.now a.marks.now a.tallies a.scratch.now a.finished.0) a.bytes.now l.walked.end (logged_of l.store l.marks l.walked.tallies l.scratch l.walked.finished.0) _ l.invariant.0 (part_laws.part-rest a.bytes.now l.walked.end)
+          _ c.length_at_front.ensures c.in-Some.length c.in-Some.is _ _ _ _
+          (ap (λ (n : ℕ). take n (drop l.walked.end a.bytes.now)) (add-sub_cancel_left l.walked.end c.in-Some.length)) o.ensures,
+      o.auto.store ∙ l.invariant.1,
+      o.auto.marks ∙ l.invariant.2,
+      o.auto.scratch ∙ l.invariant.3,
+    )
 
 pub returns : goal.returns
-returns c = let a = c.args in let l = c.loop-most in walking_end a.h (logged_of a.store.now a.marks.now a.tallies a.scratch.now a.finished.0) a.bytes.now l.most l.at (logged_of l.store l.marks l.counted l.scratch l.done.0) c.loop-most-test.false l.invariant.0
+returns c =
+    let a = c.args in
+    let l = c.loop-length in
+    walking_stop a.h (logged_of a.store.now a.marks.now a.tallies a.scratch.now a.finished.0) a.bytes.now l.walked.end (logged_of l.store l.marks l.walked.tallies l.scratch l.walked.finished.0) _ l.invariant.0 (part_laws.part-rest a.bytes.now l.walked.end)
+    _ c.length_at_front.ensures c.in_default.is

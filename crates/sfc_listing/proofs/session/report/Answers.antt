@@ -1,44 +1,54 @@
 -- `sfc_listing::session::report` meets its contract: the pieces of the text are those of the session. Assumes nothing.
-use mathlib.Core.Path.{refl, sym}
+use mathlib.Core.Path.{◌≡◌, refl, sym, ◌∙◌}
 use native.Mathlib.Omega.{arith}
+use Prim.Native.Nat.{◌%◌, ◌≤◌}
+use lib.ListN.{take}
 use lib.Seq.{length-take-le}
-use Rattle.sfc_listing.specs.Listing.{Desk, desk_of}
-use Rattle.sfc_listing.proofs.ReportLaws.{marks_right, rebuild_right, size_fits, report_printed}
+use Rattle.sfc.specs.answer.Places.{counts}
+use Rattle.sfc.specs.note.Ranges.{bounds_for}
+use Rattle.sfc.specs.session.Marks.{held_count, barred_count}
+use Rattle.sfc_listing.specs.Lent.{on_desk}
+use Rattle.sfc_listing.proofs.ReportLaws.{marks_right, rebuild_right, size_fits, counted, made, bounds-are, bounds-told, report_put}
+use Rattle.sfc_listing.proofs.session.report.Goals.{After-unwrap-count}
 use Rattle.sfc_listing.proofs.session.report.Goals as goal
 
-pub counts_of-counts-requires : goal.counts_of-counts-requires
-counts_of-counts-requires c =
+pub unwrap-counted-requires : goal.unwrap-counted-requires
+unwrap-counted-requires c =
     let a = c.args in
-    marks_right a.h (desk_of a.store.now a.marks.now a.scratch.now a.numbers.now a.content.now a.bounds.now) c.requires.0 c.requires.1
+    rw (c.count_marks.ensures ∙ counted a.h a.desk.marks.now (marks_right a.h (on_desk a.desk) c.requires.ready c.requires.lent)) refl
 
-pub bounds_of-count-requires : goal.bounds_of-count-requires
-bounds_of-count-requires c =
+pub unwrap-count-requires : goal.unwrap-count-requires
+unwrap-count-requires c =
     let a = c.args in
-    (marks_right a.h (desk_of a.store.now a.marks.now a.scratch.now a.numbers.now a.content.now a.bounds.now) c.requires.0 c.requires.1, c.requires.0.bounds_long)
+    rw (bounds-are a.h a.desk.marks.now (marks_right a.h (on_desk a.desk) c.requires.ready c.requires.lent) a.desk.bounds.now _ c.requires.ready.bounds_long _ c.list_ranges.ensures) refl
 
 pub last_word-last-requires : goal.last_word-last-requires
 last_word-last-requires c =
-    let a = c.args in
-    let d : Desk = desk_of a.store.now a.marks.now a.scratch.now a.numbers.now a.content.now a.bounds.now in (
-      rebuild_right a.h d c.requires.0 c.requires.1 _ _ _ refl refl,
-      omega (arith, size_fits a.h d c.requires.0 c.requires.1, c.requires.0.content_long),
+    let a = c.args in (
+      rebuild_right a.h (on_desk a.desk) c.requires.ready c.requires.lent _ _ _ refl refl,
+      omega (arith, size_fits a.h (on_desk a.desk) c.requires.ready c.requires.lent, c.requires.ready.content_long),
     )
 
-pub slice_bounds-put_end-end-2 : goal.slice_bounds-put_end-end-2
-slice_bounds-put_end-end-2 c =
-    let p = c.requires in
-    let l = c.bounds_of-count in
-    sym (length-take-le _ _ (omega (arith, l.ensures.1, l.auto, p.0.bounds_long)))
+-- the bounds are those of the ranges
+told : (c : After-unwrap-count) → (take c.unwrap-count.result c.list_ranges.new.out ≡ bounds_for c.args.h c.args.desk.marks.now) × (c.unwrap-count.result ≤ 1024) × (c.unwrap-count.result % 2 ≡ 0)
+told c =
+    let a = c.args in
+    bounds-told a.h a.desk.marks.now (marks_right a.h (on_desk a.desk) c.requires.ready c.requires.lent) a.desk.bounds.now _ c.requires.ready.bounds_long _ c.list_ranges.ensures _ c.unwrap-count.ensures
 
-pub put_end-requires : goal.put_end-requires
-put_end-requires c =
-    let p = c.requires in
-    let l = c.bounds_of-count in
-    let e = length-take-le l.result l.new.bounds (omega (arith, l.ensures.1, l.auto, p.0.bounds_long)) in
-    (p.2, rw e l.ensures.1, rw e l.ensures.2)
+pub slice_bounds-put_end-end : goal.slice_bounds-put_end-end
+slice_bounds-put_end-end c = omega (arith, (told (goal.at.slice_bounds-put_end-end c).After-unwrap-count).1, c.list_ranges.auto, c.requires.ready.bounds_long)
+
+pub slice_bounds-put_end-end-2 : goal.slice_bounds-put_end-end-2
+slice_bounds-put_end-end-2 c = sym (length-take-le _ _ (omega (arith, (told (goal.at.slice_bounds-put_end-end-2 c).After-unwrap-count).1, c.list_ranges.auto, c.requires.ready.bounds_long)))
+
+pub put_end-requires-clause-even : goal.put_end-requires-clause-even
+put_end-requires-clause-even c =
+    let t = told (goal.at.put_end-requires-clause-even c).After-unwrap-count in
+    let e = length-take-le c.unwrap-count.result c.list_ranges.new.out (omega (arith, t.1, c.list_ranges.auto, c.requires.ready.bounds_long)) in
+    rw e t.2
 
 pub returns : goal.returns
 returns c =
     let a = c.args in
-    let n = c.counts_of-counts.ensures in
-    report_printed a.h a.store.now a.marks.now _ _ _ _ n.0 n.1 c.bounds_of-count.ensures.0 c.last_word-last.ensures c.put_end.ensures
+    let n : c.unwrap-counted.result ≡ counts (held_count a.desk.marks.now) (barred_count a.desk.marks.now) = made _ _ (sym c.unwrap-counted.ensures ∙ c.count_marks.ensures ∙ counted a.h a.desk.marks.now (marks_right a.h (on_desk a.desk) c.requires.ready c.requires.lent)) in
+    report_put a.h a.desk.store.now a.desk.marks.now c.unwrap-counted.result _ _ n (told (goal.at.returns c).After-unwrap-count).0 c.last_word-last.ensures c.put_end.ensures

@@ -1,8 +1,0 @@
--- `sfc_listing::file::are_lengths_wrong` meets its contract, length by length. Assumes nothing.
-use mathlib.Core.Path.{refl}
-use Rattle.sfc_listing.specs.Listing.{lengths_wrong}
-use Rattle.sfc_listing.proofs.file.are_lengths_wrong.Goals as goal
-
-pub returns : goal.returns
-unfolding lengths_wrong
-returns c = refl
