@@ -4,151 +4,92 @@
 
 ghost use Rattle.std.specs.Prelude.{◌<◌};
 
-use std::io;
+use blake3::{Reason, Running};
+use std::{array, fmt, io};
 
-fn wide(x: u8) -> u64 {
-    x as u64
-}
+const LENGTHS: [usize; 35] = [
+    0, 1, 2, 3, 4, 5, 6, 7, 8, 63, 64, 65, 127, 128, 129, 1023, 1024, 1025, 2048, 2049, 3072, 3073,
+    4096, 4097, 5120, 5121, 6144, 6145, 7168, 7169, 8192, 8193, 16384, 31744, 102400,
+];
 
-fn print_hash(rt: &impl Print, hash: [u8; 32]) -> io::Result<()> {
-    let mut j: usize = 0;
-    while j < 32 {
-        let x = wide(hash[j]);
-        print!(rt; "{x:02x}")?;
-        j += 1;
-    }
-    println!(rt;)
-}
+// Lengths, each with a cut.
+const CUTS: [(usize, usize); 18] = [
+    (0, 1),
+    (1, 1),
+    (64, 63),
+    (65, 64),
+    (1023, 1),
+    (1024, 1024),
+    (1025, 1024),
+    (1025, 63),
+    (2048, 1023),
+    (2049, 1024),
+    (3073, 1025),
+    (4096, 2048),
+    (4097, 100),
+    (5121, 4096),
+    (8193, 700),
+    (16384, 1024),
+    (31744, 3000),
+    (102400, 65536),
+];
 
-fn print_length(rt: &impl Print, n: usize) -> io::Result<()> {
-    print!(rt; "{n} ")
-}
+// A hash as it is printed. cauchy_vectors has such a type for its bytes: the programs share no crate of their own.
+#[derive(Clone, Copy)]
+struct Hex([u8; 32]);
 
-fn pattern(i: usize) -> u8 {
-    (i % 251) as u8
-}
-
-fn fill(text: &mut [u8]) {
-    let mut j: usize = 0;
-    while j < text.len() {
-        text[j] = pattern(j);
-        j += 1;
+impl fmt::Display for Hex {
+    fn fmt<W: fmt::Write>(&self, f: &mut fmt::Formatter<W>) -> fmt::Result {
+        for x in &self.0 {
+            write!(f, "{x:02x}")?;
+        }
+        Ok(())
     }
 }
 
 // The hash of a text, fed in parts of `cut` bytes and one of the rest.
-fn by_value(text: &[u8], cut: usize) -> [u8; 32]
+fn by_value(text: &[u8], cut: usize) -> Result<[u8; 32], Reason>
     requires { 0 < cut }
 {
-    let mut state = blake3::Running::new();
-    let mut at: usize = 0;
-    while cut < text.len() - at {
-        let fed = state.feed(&text[at..at + cut]);
-        let next = fed.state;
-        state = next;
-        at += cut;
-    }
-    let last = state.feed(&text[at..]);
-    let whole = last.state;
-    let end = whole.finish();
-    end.hash
+    text.chunks(cut)
+        .try_fold(Running::new(), Running::feed)?
+        .finish()
 }
 
 // The hash of a text, through a record that is fed in place: `cut` bytes first, then the rest.
-fn in_place(text: &[u8], cut: usize) -> [u8; 32] {
-    let at = little::within8(cut, text);
-    let end = blake3::hash_two_in_place(&text[..at], &text[at..]);
-    end.hash
+fn in_place(text: &[u8], cut: usize) -> Result<[u8; 32], Reason> {
+    let (first, rest) = text.split_at(cut.min(text.len()));
+    blake3::hash_two_in_place(first, rest)
 }
 
-fn at_once(rt: &impl Print, text: &[u8], n: usize) -> io::Result<()> {
-    if n <= text.len() {
-        print_length(rt, n)?;
-        print_hash(rt, blake3::hash(&text[..n]))?;
+fn at_once(rt: &impl Print, bytes: &[u8]) -> io::Result<()> {
+    for length in LENGTHS {
+        if let Some(text) = bytes.get(..length) {
+            println!(rt; "{length} {}", Hex(blake3::hash(text)))?;
+        }
     }
     Ok(())
 }
 
-fn in_parts(rt: &impl Print, text: &[u8], n: usize, cut: usize) -> io::Result<()>
-    requires { 0 < cut }
-{
-    if n <= text.len() {
-        print_length(rt, n)?;
-        print_length(rt, cut)?;
-        print_hash(rt, by_value(&text[..n], cut))?;
-        print_length(rt, n)?;
-        print_length(rt, cut)?;
-        print_hash(rt, in_place(&text[..n], cut))?;
+fn in_parts(rt: &impl Print, bytes: &[u8]) -> io::Result<()> {
+    for (length, cut) in CUTS {
+        if let Some(text) = bytes.get(..length) {
+            // a refusal, which comes only of texts far longer than these, would print zeros
+            println!(rt;
+                "{length} {cut} {}",
+                Hex(by_value(text, cut).unwrap_or([0; 32]))
+            )?;
+            println!(rt;
+                "{length} {cut} {}",
+                Hex(in_place(text, cut).unwrap_or([0; 32]))
+            )?;
+        }
     }
     Ok(())
-}
-
-fn short_texts(rt: &impl Print, text: &[u8]) -> io::Result<()> {
-    at_once(rt, text, 0)?;
-    at_once(rt, text, 1)?;
-    at_once(rt, text, 2)?;
-    at_once(rt, text, 3)?;
-    at_once(rt, text, 4)?;
-    at_once(rt, text, 5)?;
-    at_once(rt, text, 6)?;
-    at_once(rt, text, 7)?;
-    at_once(rt, text, 8)?;
-    at_once(rt, text, 63)?;
-    at_once(rt, text, 64)?;
-    at_once(rt, text, 65)?;
-    at_once(rt, text, 127)?;
-    at_once(rt, text, 128)?;
-    at_once(rt, text, 129)?;
-    at_once(rt, text, 1023)?;
-    at_once(rt, text, 1024)
-}
-
-fn long_texts(rt: &impl Print, text: &[u8]) -> io::Result<()> {
-    at_once(rt, text, 1025)?;
-    at_once(rt, text, 2048)?;
-    at_once(rt, text, 2049)?;
-    at_once(rt, text, 3072)?;
-    at_once(rt, text, 3073)?;
-    at_once(rt, text, 4096)?;
-    at_once(rt, text, 4097)?;
-    at_once(rt, text, 5120)?;
-    at_once(rt, text, 5121)?;
-    at_once(rt, text, 6144)?;
-    at_once(rt, text, 6145)?;
-    at_once(rt, text, 7168)?;
-    at_once(rt, text, 7169)?;
-    at_once(rt, text, 8192)?;
-    at_once(rt, text, 8193)?;
-    at_once(rt, text, 16384)?;
-    at_once(rt, text, 31744)?;
-    at_once(rt, text, 102400)
-}
-
-fn cut_texts(rt: &impl Print, text: &[u8]) -> io::Result<()> {
-    in_parts(rt, text, 0, 1)?;
-    in_parts(rt, text, 1, 1)?;
-    in_parts(rt, text, 64, 63)?;
-    in_parts(rt, text, 65, 64)?;
-    in_parts(rt, text, 1023, 1)?;
-    in_parts(rt, text, 1024, 1024)?;
-    in_parts(rt, text, 1025, 1024)?;
-    in_parts(rt, text, 1025, 63)?;
-    in_parts(rt, text, 2048, 1023)?;
-    in_parts(rt, text, 2049, 1024)?;
-    in_parts(rt, text, 3073, 1025)?;
-    in_parts(rt, text, 4096, 2048)?;
-    in_parts(rt, text, 4097, 100)?;
-    in_parts(rt, text, 5121, 4096)?;
-    in_parts(rt, text, 8193, 700)?;
-    in_parts(rt, text, 16384, 1024)?;
-    in_parts(rt, text, 31744, 3000)?;
-    in_parts(rt, text, 102400, 65536)
 }
 
 fn main(rt: HostRuntime) -> io::Result<()> {
-    let mut text = [0u8; 102400];
-    fill(&mut text);
-    short_texts(&rt, &text)?;
-    long_texts(&rt, &text)?;
-    cut_texts(&rt, &text)
+    let bytes: [u8; 102400] = array::from_fn(|i| (i % 251) as u8);
+    at_once(&rt, &bytes)?;
+    in_parts(&rt, &bytes)
 }

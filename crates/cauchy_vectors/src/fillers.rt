@@ -1,145 +1,81 @@
-// What fills lent memory, and digests of it: a linear congruential generator, dirt, marks, stores with garbage.
+// What fills lent memory, and how it is printed: a linear congruential generator, marks, garbage, digests and bytes in hex.
+ghost use Rattle.std.specs.Prelude.{◌<◌};
+ghost use Rattle.cauchy_vectors.specs.declared.fillers.TheConstants.{PRIME};
 
-// The generator's states are the numbers below 2^32, and a digest is a number below the largest prime under that.
-const STATES: u64 = 4294967296;
+use std::{array, fmt};
+
+// What dirty memory holds.
+pub(crate) const DIRT: u8 = 0xEE;
+
+pub(crate) const DIRTY_NUMBER: u16 = 7;
+
+// Fills with what the generator gives, from state 1 on.
+pub(crate) fn fill(out: &mut [u8]) {
+    let mut state: u32 = 1;
+    for x in out {
+        state = state.wrapping_mul(1103515245).wrapping_add(12345);
+        *x = state.to_le_bytes()[2];
+    }
+}
+
+// The marks of a store: 1 for an index that is held, else absent, barred or a mark that does not exist.
+pub(crate) fn marks<const N: usize, F: Fn(usize) -> bool>(gone: F) -> [u8; N]
+    requires { (i : _) → i < N → F.pre gone i }
+{
+    array::from_fn(|i| if gone(i) { [0, 2, 7][i % 3] } else { 1 })
+}
+
+// Leaves garbage where the blocks of s bytes are not held.
+pub(crate) fn damage(store: &mut [u8], marks: &[u8], s: usize)
+    requires { 0 < s }
+{
+    for (i, x) in store.iter_mut().enumerate() {
+        if marks.get(i / s) != Some(&1) {
+            *x = (i % 251) as u8;
+        }
+    }
+}
 
 const PRIME: u64 = 4294967291;
 
-fn next(state: u64) -> u64 {
-    (state % STATES * 1103515245 + 12345) % STATES
+// A running digest modulo the largest prime below 2^32: a wrong, missing or moved value changes it.
+#[derive(Clone, Copy)]
+pub(crate) struct Digest {
+    value: u64,
+    ghost reduced: { value < PRIME },
 }
 
-fn low_byte(x: u64) -> u8 {
-    (x % 256) as u8
-}
+impl Digest {
+    pub(crate) fn new() -> Digest {
+        Digest { value: 1 }
+    }
 
-pub(crate) fn fill(out: &mut [u8], seed: u64) {
-    let mut state = seed;
-    let mut i: usize = 0;
-    while i < out.len() {
-        state = next(state);
-        out[i] = low_byte(state / 65536);
-        i += 1;
+    pub(crate) fn take(self, x: u16) -> Digest {
+        Digest {
+            value: (self.value * 65599 + u64::from(x) + 1) % PRIME,
+        }
+    }
+
+    pub(crate) fn take_all<T: Copy + Into<u16>>(self, values: &[T]) -> Digest {
+        values.iter().fold(self, |digest, &x| digest.take(x.into()))
     }
 }
 
-pub(crate) fn dirty(out: &mut [u8]) {
-    let mut i: usize = 0;
-    while i < out.len() {
-        out[i] = 0xEE;
-        i += 1;
+impl fmt::Display for Digest {
+    fn fmt<W: fmt::Write>(&self, f: &mut fmt::Formatter<W>) -> fmt::Result {
+        write!(f, "{:08x}", self.value)
     }
 }
 
-pub(crate) fn dirty_numbers(out: &mut [u16]) {
-    let mut i: usize = 0;
-    while i < out.len() {
-        out[i] = 7;
-        i += 1;
-    }
-}
+// Bytes as they are printed. blake3_vectors has such a type for its hashes: the programs share no crate of their own.
+#[derive(Clone, Copy)]
+pub(crate) struct Hex<'a>(pub(crate) &'a [u8]);
 
-// One value more in a digest.
-pub(crate) fn mixed(digest: u64, x: u64) -> u64 {
-    (digest % PRIME * 65599 + x % 65536 + 1) % PRIME
-}
-
-fn wide(x: u8) -> u64 {
-    x as u64
-}
-
-fn wide_number(x: u16) -> u64 {
-    x as u64
-}
-
-pub(crate) fn digest_bytes(start: u64, bytes: &[u8]) -> u64 {
-    let mut digest = start;
-    let mut i: usize = 0;
-    while i < bytes.len() {
-        digest = mixed(digest, wide(bytes[i]));
-        i += 1;
-    }
-    digest
-}
-
-pub(crate) fn digest_numbers(start: u64, numbers: &[u16]) -> u64 {
-    let mut digest = start;
-    let mut i: usize = 0;
-    while i < numbers.len() {
-        digest = mixed(digest, wide_number(numbers[i]));
-        i += 1;
-    }
-    digest
-}
-
-// The mark of index i: 1 if it is held, else absent, barred or a mark that does not exist.
-fn mark_of(gone: bool, i: usize) -> u8 {
-    if !gone {
-        return 1;
-    }
-    if i % 3 == 0 {
-        return 0;
-    }
-    if i % 3 == 1 { 2 } else { 7 }
-}
-
-// Index i is gone if bit i of the mask is set.
-pub(crate) fn mark_by_mask(marks: &mut [u8], mask: u64) {
-    let mut rest = mask;
-    let mut i: usize = 0;
-    while i < marks.len() {
-        marks[i] = mark_of(rest % 2 == 1, i);
-        rest = rest / 2;
-        i += 1;
-    }
-}
-
-// Each 33rd index is gone, from `first` on.
-pub(crate) fn mark_each_33(marks: &mut [u8], first: usize) {
-    let mut i: usize = 0;
-    while i < marks.len() {
-        marks[i] = mark_of(i % 33 == first, i);
-        i += 1;
-    }
-}
-
-// The indices from `from` on, below `to`, are gone.
-pub(crate) fn mark_range(marks: &mut [u8], from: usize, to: usize) {
-    let mut i: usize = 0;
-    while i < marks.len() {
-        marks[i] = mark_of((from <= i) & (i < to), i);
-        i += 1;
-    }
-}
-
-fn byte_at(bytes: &[u8], i: usize) -> u8 {
-    if i < bytes.len() { bytes[i] } else { 0 }
-}
-
-pub(crate) fn copy(source: &[u8], out: &mut [u8]) {
-    let mut i: usize = 0;
-    while i < out.len() {
-        out[i] = byte_at(source, i);
-        i += 1;
-    }
-}
-
-// Byte i of the store as it is lent: the whole store's, or garbage where its block of s bytes is not held.
-fn lent_byte(whole: &[u8], marks: &[u8], s: usize, i: usize) -> u8 {
-    if s == 0 {
-        return 0;
-    }
-    if byte_at(marks, i / s) == 1 {
-        byte_at(whole, i)
-    } else {
-        low_byte(i as u64 % 251)
-    }
-}
-
-pub(crate) fn damage(whole: &[u8], marks: &[u8], s: usize, store: &mut [u8]) {
-    let mut i: usize = 0;
-    while i < store.len() {
-        store[i] = lent_byte(whole, marks, s, i);
-        i += 1;
+impl fmt::Display for Hex<'_> {
+    fn fmt<W: fmt::Write>(&self, f: &mut fmt::Formatter<W>) -> fmt::Result {
+        for x in self.0 {
+            write!(f, "{x:02x}")?;
+        }
+        Ok(())
     }
 }

@@ -2,30 +2,22 @@
 // and ten thousand products.
 #![tactic(auto)]
 
-use std::io;
+ghost use Rattle.std.specs.Prelude.{◌<◌};
+ghost use Rattle.gf16_vectors.specs.declared.TheConstants.{HIGH_PRIME, LOW_PRIME};
 
-fn line_end(rt: &impl Print) -> io::Result<()> {
-    println!(rt;)
-}
-
-fn hex4(rt: &impl Print, x: u16) -> io::Result<()> {
-    print!(rt; "{x:04x}")
-}
-
-fn product(rt: &impl Print, label: &str, a: u16, b: u16) -> io::Result<()> {
-    print!(rt; "{label}")?;
-    hex4(rt, gf16::mul(a, b))?;
-    line_end(rt)
-}
+use std::{fmt, io};
 
 fn worked(rt: &impl Print) -> io::Result<()> {
-    product(rt, "C1 ", 2, 0x8016)?;
-    product(rt, "C2 ", 3, 0x8016)?;
-    product(rt, "C3 ", 4, 0x8016)?;
-    product(rt, "C4 ", 2, 0x8000)?;
-    print!(rt; "C5 ")?;
-    hex4(rt, gf16::inv(1))?;
-    line_end(rt)
+    let products = [
+        ("C1", 2, 0x8016),
+        ("C2", 3, 0x8016),
+        ("C3", 4, 0x8016),
+        ("C4", 2, 0x8000),
+    ];
+    for (label, a, b) in products {
+        println!(rt; "{label} {:04x}", gf16::mul(a, b))?;
+    }
+    println!(rt; "C5 {:04x}", gf16::inv(1))
 }
 
 const BASE: u64 = 65537;
@@ -34,11 +26,14 @@ const LOW_PRIME: u64 = 4294967291;
 
 const HIGH_PRIME: u64 = 4294967279;
 
-// A running digest at base 65537 modulo two primes below 2^32: a wrong, missing or moved value changes it.
-#[derive(Drop)]
+// A running digest at base 65537 modulo two primes below 2^32: a wrong, missing or moved value changes it. cauchy_vectors has one
+// of its own: the programs share no crate of their own.
+#[derive(Clone, Copy)]
 struct Digest {
     low: u64,
     high: u64,
+    ghost low_reduced: { low < LOW_PRIME },
+    ghost high_reduced: { high < HIGH_PRIME },
 }
 
 impl Digest {
@@ -48,71 +43,39 @@ impl Digest {
 
     fn take(self, x: u16) -> Digest {
         Digest {
-            low: (self.low % LOW_PRIME * BASE + x as u64) % LOW_PRIME,
-            high: (self.high % HIGH_PRIME * BASE + x as u64) % HIGH_PRIME,
+            low: (self.low * BASE + u64::from(x)) % LOW_PRIME,
+            high: (self.high * BASE + u64::from(x)) % HIGH_PRIME,
         }
-    }
-
-    fn print(self, rt: &impl Print) -> io::Result<()> {
-        let low = self.low;
-        let high = self.high;
-        print!(rt; "{low:08x} {high:08x}")
     }
 }
 
-// The digest of the inverses of `count` elements from `first` on.
-fn inverses(first: u16, count: u16) -> Digest {
-    let mut digest = Digest::new();
-    let mut left = count;
-    while 0 < left {
-        let a = first.wrapping_add(count - left);
-        let next = digest.take(gf16::inv(a));
-        digest = next;
-        left -= 1;
+impl fmt::Display for Digest {
+    fn fmt<W: fmt::Write>(&self, f: &mut fmt::Formatter<W>) -> fmt::Result {
+        write!(f, "{:08x} {:08x}", self.low, self.high)
     }
-    digest
 }
 
 // All elements, 4,096 to a line.
 fn all_inverses(rt: &impl Print) -> io::Result<()> {
-    let mut left: u16 = 16;
-    while 0 < left {
-        let first = (16 - left) * 4096;
-        print!(rt; "inverses from ")?;
-        hex4(rt, first)?;
-        print!(rt; ": ")?;
-        inverses(first, 4096).print(rt)?;
-        line_end(rt)?;
-        left -= 1;
+    for high in 0..16 {
+        let first: u16 = high * 4096;
+        let digest = (first..=first + 4095)
+            .map(gf16::inv)
+            .fold(Digest::new(), Digest::take);
+        println!(rt; "inverses from {first:04x}: {digest}")?;
     }
     Ok(())
 }
 
-// The factors of product i leap over the field.
-fn left_factor(i: u64) -> u16 {
-    ((i % 65536 * 40503 + 1) % 65536) as u16
-}
-
-fn right_factor(i: u64) -> u16 {
-    ((i % 65536 * 25717 + 3) % 65536) as u16
-}
-
-// Sixteen products, from product `first` on.
-fn row(rt: &impl Print, first: u64) -> io::Result<()> {
-    let mut left: u64 = 16;
-    while 0 < left {
-        let i = first.wrapping_add(16 - left);
-        hex4(rt, gf16::mul(left_factor(i), right_factor(i)))?;
-        left -= 1;
-    }
-    line_end(rt)
-}
-
+// Sixteen products to a line. Their factors leap over the field.
 fn products(rt: &impl Print) -> io::Result<()> {
-    let mut left: u64 = 640;
-    while 0 < left {
-        row(rt, (640 - left) * 16)?;
-        left -= 1;
+    for i in 0u16..10240 {
+        let left = i.wrapping_mul(40503).wrapping_add(1);
+        let right = i.wrapping_mul(25717).wrapping_add(3);
+        print!(rt; "{:04x}", gf16::mul(left, right))?;
+        if i % 16 == 15 {
+            println!(rt;)?;
+        }
     }
     Ok(())
 }

@@ -1,6 +1,0 @@
--- `damage` is safe and ends. Assumes nothing.
-use Rattle.std.proofs.Common.{length, ◌-◌}
-use Rattle.cauchy_vectors.proofs.fillers.damage.Given as goal
-
-abbrev pub decreases-loop-i : goal.decreases-loop-i
-decreases-loop-i l = length l.store - l.i

@@ -1,6 +1,0 @@
--- `mark_by_mask` is safe and ends. Assumes nothing.
-use Rattle.std.proofs.Common.{length, ◌-◌}
-use Rattle.cauchy_vectors.proofs.fillers.mark_by_mask.Given as goal
-
-abbrev pub decreases-loop-i : goal.decreases-loop-i
-decreases-loop-i l = length l.marks - l.i

@@ -1,6 +1,0 @@
--- `show_ranges` is safe and ends. Assumes nothing.
-use Rattle.std.proofs.Common.{◌-◌}
-use Rattle.cauchy_vectors.proofs.odd.show_ranges.Given as goal
-
-abbrev pub decreases-loop-i : goal.decreases-loop-i
-decreases-loop-i g l = 33 - l.i

@@ -1,9 +1,0 @@
--- `gf16_vectors::all_inverses` is safe and ends: sixteen lines. Assumes nothing.
-use Rattle.std.proofs.Common.{◌≤◌}
-use Rattle.gf16_vectors.proofs.all_inverses.Given as goal
-
-abbrev pub invariant-loop-left : goal.invariant-loop-left
-invariant-loop-left g l = l.left ≤ 16
-
-abbrev pub decreases-loop-left : goal.decreases-loop-left
-decreases-loop-left g l = l.left
