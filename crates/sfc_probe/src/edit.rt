@@ -1,112 +1,38 @@
 // Frames that load, keep, cut and change the file.
 ghost use Rattle.std.specs.Io.{ReadsAtMost};
 
-use crate::frame::Frame;
-use crate::{frame, input, room, write};
+use crate::buffer::{Buffer, ROOM, after, after_mut, copy, front, front_mut};
+use crate::frame::{Edit, Part};
+use crate::{input, write};
 use std::io;
-
-// How many bytes of the two buffers are the file and the kept file.
-#[derive(Drop)]
-pub(crate) struct Sizes {
-    pub(crate) file: usize,
-    pub(crate) kept: usize,
-}
-
-// Copies as many bytes as the shorter has.
-pub(crate) fn copy(src: &[u8], dst: &mut [u8]) {
-    let end = little::least(src.len(), dst.len());
-    let mut i = 0;
-    while i < end {
-        dst[i] = src[i];
-        i += 1;
-    }
-}
 
 // Reads up to `count` bytes of input to the front of the buffer, as far as it goes, and answers how many.
 pub(crate) fn fill(rt: &impl Input, count: usize, buffer: &mut [u8]) -> io::Result<usize>
     ensures { ReadsAtMost result buffer.new }
 {
-    let end = little::within8(count, buffer);
+    let end = count.min(buffer.len());
     input::read_full(rt, &mut buffer[..end])
 }
 
-fn load(rt: &impl Input, count: usize, file: &mut [u8], kept: &mut [u8]) -> io::Result<Sizes> {
-    let got = fill(rt, count, file)?;
-    copy(file, kept);
-    Ok(Sizes {
-        file: got,
-        kept: got,
-    })
+// As much of a part as there is; twice, as `front` is.
+pub(crate) fn part_of(bytes: &[u8], part: Part) -> &[u8] {
+    front(after(bytes, part.start), part.length)
 }
 
-// Bytes of one value after the file's end, as far as the buffer goes.
-fn grow(count: usize, value: u8, sizes: Sizes, file: &mut [u8]) -> Sizes {
-    let start = little::within8(sizes.file, file);
-    let rest = &mut file[start..];
-    let end = little::within8(count, rest);
-    little::fill8(&mut rest[..end], value);
-    Sizes {
-        file: start + end,
-        kept: sizes.kept,
+pub(crate) fn part_of_mut(bytes: &mut [u8], part: Part) -> &mut [u8] {
+    front_mut(after_mut(bytes, part.start), part.length)
+}
+
+pub(crate) fn set_byte(bytes: &mut [u8], at: usize, value: u8) {
+    if let Some(byte) = bytes.get_mut(at) {
+        *byte = value;
     }
 }
 
-// The bytes of a part after the file's end, as far as the buffer goes.
-fn repeat(frame: Frame, sizes: Sizes, file: &mut [u8]) -> Sizes {
-    let mut part = room::large_buffer();
-    let length = little::within8(sizes.file, file);
-    let start = little::within8(frame.a as usize, &file[..length]);
-    let rest = &file[start..length];
-    let count = little::within8(frame.b as usize, rest);
-    copy(&rest[..count], &mut part);
-    let room = &mut file[length..];
-    let end = little::within8(count, room);
-    copy(&part, &mut room[..end]);
-    Sizes {
-        file: length + end,
-        kept: sizes.kept,
-    }
-}
-
-// Frames that change how long the file is.
-pub(crate) fn resize(
-    rt: &(impl Print + Input),
-    frame: Frame,
-    sizes: Sizes,
-    file: &mut [u8],
-    kept: &mut [u8],
-) -> io::Result<Sizes> {
-    let opcode = frame.opcode;
-    match opcode {
-        frame::LOAD => load(rt, frame.a as usize, file, kept),
-        frame::KEEP => {
-            copy(file, kept);
-            Ok(Sizes {
-                file: sizes.file,
-                kept: sizes.file,
-            })
-        }
-        frame::RESTORE => {
-            copy(kept, file);
-            Ok(Sizes {
-                file: sizes.kept,
-                kept: sizes.kept,
-            })
-        }
-        frame::CUT => Ok(Sizes {
-            file: little::least(frame.a as usize, sizes.file),
-            kept: sizes.kept,
-        }),
-        frame::WRITE => write::become_written(rt, frame, sizes, file),
-        frame::REPEAT => Ok(repeat(frame, sizes, file)),
-        frame::GROW => Ok(grow(frame.a as usize, frame.small, sizes, file)),
-        _ => Ok(sizes),
-    }
-}
-
-pub(crate) fn set_byte(file: &mut [u8], at: usize, value: u8) {
-    if at < file.len() {
-        file[at] = value;
+// Changes a byte by exclusive or, where it is there.
+pub(crate) fn spoil(bytes: &mut [u8], at: usize, mask: u8) {
+    if let Some(byte) = bytes.get_mut(at) {
+        *byte ^= mask;
     }
 }
 
@@ -116,8 +42,7 @@ pub(crate) fn seal_header(file: &mut [u8]) {
     if file.len() < length + 76 {
         return;
     }
-    let end = 12 + length;
-    let hash = blake3::hash(&file[8..end]);
+    let hash = blake3::hash(&file[8..12 + length]);
     let at = file.len() - 56;
     copy(&hash, &mut file[at..]);
 }
@@ -128,28 +53,54 @@ pub(crate) fn seal_chunk(chunk: &mut [u8]) {
     if chunk.len() < 84 + length {
         return;
     }
-    let end = little::within8(48 + length, chunk);
-    let hash = blake3::hash(&chunk[..end]);
-    copy(&hash, &mut chunk[end..]);
+    let (hashed, trailer) = chunk.split_at_mut(48 + length);
+    copy(&blake3::hash(hashed), trailer);
 }
 
-// Frames that change bytes of the file.
-pub(crate) fn change(frame: Frame, file: &mut [u8]) {
-    let opcode = frame.opcode;
-    let at = frame.a as usize;
-    match opcode {
-        frame::SET_BYTE => set_byte(file, at, frame.small),
-        frame::SET_16 => {
-            little::write16(file, at, (frame.b % 65536) as u16);
-        }
-        frame::SET_32 => {
-            little::write32(file, at, frame.b);
-        }
-        frame::SEAL_HEADER => seal_header(file),
-        frame::SEAL_CHUNK => {
-            let start = little::within8(at, file);
-            seal_chunk(&mut file[start..]);
-        }
-        _ => {}
+// The bytes of a part after the file's end, as far as the buffer goes.
+fn repeat(file: &mut Buffer<ROOM>, part: Part) {
+    let mut repeated = Buffer::<ROOM>::new();
+    repeated.load(part_of(file.as_slice(), part));
+    file.extend(repeated.as_slice());
+}
+
+// Writes into an output of so many bytes; a file that was written becomes the file.
+fn become_written(rt: &impl Print, file: &mut Buffer<ROOM>, room: usize) -> io::Result<()> {
+    let mut out = Buffer::<ROOM>::patterned(room);
+    let length = write::from_inputs(rt, file.as_slice(), out.as_mut_slice())?;
+    if let Some(length) = length {
+        out.truncate(length);
+        file.load(out.as_slice());
     }
+    Ok(())
+}
+
+pub(crate) fn serve(
+    rt: &(impl Print + Input),
+    edit: Edit,
+    file: &mut Buffer<ROOM>,
+    kept: &mut Buffer<ROOM>,
+) -> io::Result<()> {
+    match edit {
+        Edit::Load { count } => {
+            file.read(rt, count)?;
+            kept.load(file.as_slice());
+        }
+        Edit::Keep => kept.load(file.as_slice()),
+        Edit::Restore => file.load(kept.as_slice()),
+        Edit::Cut { length } => file.truncate(length),
+        Edit::Grow { count, value } => file.grow(count, value),
+        Edit::Repeat(part) => repeat(file, part),
+        Edit::SetByte { at, value } => set_byte(file.as_mut_slice(), at, value),
+        Edit::Set16 { at, value } => {
+            little::write16(file.as_mut_slice(), at, value);
+        }
+        Edit::Set32 { at, value } => {
+            little::write32(file.as_mut_slice(), at, value);
+        }
+        Edit::SealHeader => seal_header(file.as_mut_slice()),
+        Edit::SealChunk { at } => seal_chunk(after_mut(file.as_mut_slice(), at)),
+        Edit::Write { room } => become_written(rt, file, room)?,
+    }
+    Ok(())
 }

@@ -1,254 +1,153 @@
 // Frames that ask for the content, by turns and a release, or for a block, over scratch of their own.
-use crate::frame::Frame;
-use crate::{frame, print, room, sets, turns};
-use sfc::{BlockGiven, BlockNumber, Head, block, number_of};
-use std::io;
+use crate::buffer::{Buffer, ROOM, front_mut};
+use crate::frame::Wish;
+use crate::print::{Lendable, Output, State};
+use crate::{sets, turns};
+use sfc::{BlockNumber, ColumnCount, Complete, Head, Reason, UnverifiedBlock, block};
+use std::{fmt, io};
 
-// How many bytes and numbers are lent as scratch, and the budget of a hand-out's turns, 0 where there is one for all columns.
+// One number more than a turn takes.
+pub(crate) const NUMBERS_ROOM: usize = 1025;
+
+// The longest output that is asked for with many sets of marks.
+const SETS_ROOM: usize = 4096;
+
+// How many bytes and numbers are lent as scratch, and how many columns each turn of a hand-out may do; without a budget there is
+// one turn, for all.
 #[derive(Clone, Copy)]
-pub(crate) struct Scratch {
+pub(crate) struct Lent {
     pub(crate) bytes: usize,
     pub(crate) numbers: usize,
-    pub(crate) budget: u32,
+    pub(crate) budget: Option<u32>,
 }
 
-// The scratch after a frame.
-pub(crate) fn scratch_after(frame: Frame, before: Scratch) -> Scratch {
-    if frame.opcode == frame::SCRATCH {
-        return Scratch {
-            bytes: frame.a as usize,
-            numbers: frame.b as usize,
-            budget: frame.small as u32,
-        };
-    }
-    before
-}
-
-// What was answered in the end: the number of the refusal or 0, the block and the place that were given; and of a hand-out the
-// columns that are finished after it, and how many turns did any.
+// What a session holds of a file.
 #[derive(Clone, Copy)]
-pub(crate) struct Told {
-    pub(crate) answer: u8,
-    pub(crate) block: u64,
-    pub(crate) place: u64,
-    pub(crate) finished: u32,
-    pub(crate) turns: u32,
+pub(crate) struct Held<'a> {
+    pub(crate) head: Head,
+    pub(crate) store: &'a [u8],
+    pub(crate) marks: &'a [u8],
 }
 
-fn told_given(given: BlockGiven) -> Told {
-    match given {
-        BlockGiven::Unverified(number, place) => Told {
-            answer: 0,
-            block: number.0 as u64,
-            place: place.0 as u64,
-            finished: 0,
-            turns: 0,
-        },
-        BlockGiven::Refused(reason) => Told {
-            answer: number_of(reason),
-            block: 0,
-            place: 0,
-            finished: 0,
-            turns: 0,
-        },
+// The memory that is lent for one answer.
+#[derive(Drop)]
+pub(crate) struct Bench<'a> {
+    pub(crate) scratch: &'a mut [u8],
+    pub(crate) numbers: &'a mut [u16],
+    pub(crate) out: &'a mut [u8],
+}
+
+impl Bench<'_> {
+    // A pattern in all that may be written to.
+    fn spread(&mut self) {
+        self.scratch.fill(u8::PATTERN);
+        self.numbers.fill(u16::PATTERN);
+        self.out.fill(u8::PATTERN);
     }
 }
 
-fn is_for_content(opcode: u8) -> bool {
-    (opcode == frame::HAND_OUT) | (opcode == frame::HAND_OUT_SETS)
+// What is asked for: the content, by turns of a budget, or a block.
+#[derive(Clone, Copy)]
+pub(crate) enum Target {
+    Content(Option<u32>),
+    Block(BlockNumber),
 }
 
-// What a frame asks for, with a pattern in all that may be written to.
-pub(crate) fn call(
-    frame: Frame,
-    head: Head,
-    budget: u32,
-    store: &[u8],
-    marks: &[u8],
-    scratch: &mut [u8],
-    numbers: &mut [u16],
-    out: &mut [u8],
-) -> Told {
-    little::fill8(scratch, 0xA5);
-    little::fill16(numbers, 0xA5A5);
-    little::fill8(out, 0xA5);
-    if is_for_content(frame.opcode) {
-        return turns::hand_out(head, budget, store, marks, scratch, numbers, out);
-    }
-    told_given(block(
-        head,
-        BlockNumber(frame.a),
-        store,
-        marks,
-        scratch,
-        numbers,
-        out,
-    ))
+// What was answered in the end; and of a hand-out the columns that are finished after it, and how many turns did any.
+#[derive(Clone, Copy)]
+pub(crate) enum Told {
+    Content {
+        handed: Result<Complete, Reason>,
+        finished: ColumnCount,
+        turns: u32,
+    },
+    Block(Result<UnverifiedBlock, Reason>),
 }
 
-// What became of the scratch: 0 where all are zeros, 1 where all have the pattern.
-pub(crate) fn bytes_state(bytes: &[u8]) -> u8 {
-    if little::are_all8(bytes, 0) {
-        return 0;
-    }
-    if little::are_all8(bytes, 0xA5) {
-        return 1;
-    }
-    2
-}
-
-pub(crate) fn numbers_state(numbers: &[u16]) -> u8 {
-    if little::are_all16(numbers, 0) {
-        return 0;
-    }
-    if little::are_all16(numbers, 0xA5A5) {
-        return 1;
-    }
-    2
-}
-
-pub(crate) fn print_state(rt: &impl Print, state: u8) -> io::Result<()> {
-    match state {
-        0 => print::text(rt, "zeros"),
-        1 => print::text(rt, "kept"),
-        _ => print::text(rt, "mixed"),
+impl Told {
+    pub(crate) fn refused(&self) -> Option<Reason> {
+        match *self {
+            Told::Content { handed, .. } => handed.err(),
+            Told::Block(given) => given.err(),
+        }
     }
 }
 
-fn print_told(rt: &impl Print, opcode: u8, told: Told) -> io::Result<()> {
-    if told.answer != 0 {
-        print::decimal(rt, told.answer as u64)
-    } else if is_for_content(opcode) {
-        print::field(rt, "complete ", told.place)
-    } else {
-        print::field(rt, "unverified ", told.block)?;
-        print::field(rt, " ", told.place)
+impl fmt::Display for Told {
+    fn fmt<W: fmt::Write>(&self, f: &mut fmt::Formatter<W>) -> fmt::Result {
+        match *self {
+            Told::Content {
+                handed: Ok(complete),
+                ..
+            } => write!(f, "complete {}", complete.end.0),
+            Told::Block(Ok(given)) => write!(f, "unverified {} {}", given.number.0, given.at.0),
+            Told::Content {
+                handed: Err(reason),
+                ..
+            }
+            | Told::Block(Err(reason)) => write!(f, "{}", u8::from(reason)),
+        }
     }
 }
 
-fn print_rest(rt: &impl Print, opcode: u8, told: Told) -> io::Result<()> {
-    if is_for_content(opcode) {
-        print::field(rt, " finished ", told.finished as u64)?;
-        print::field(rt, " turns ", told.turns as u64)?;
+// One answer, with a pattern before it in all that may be written to.
+pub(crate) fn call(target: Target, held: Held<'_>, bench: &mut Bench<'_>) -> Told {
+    bench.spread();
+    match target {
+        Target::Content(budget) => turns::hand_out(held, budget, bench),
+        Target::Block(number) => Told::Block(block(
+            held.head,
+            number,
+            held.store,
+            held.marks,
+            bench.scratch,
+            bench.numbers,
+            bench.out,
+        )),
     }
-    print::line_end(rt)
 }
 
 // The answer, the output, the scratch, and what is told of the turns.
-fn one(
-    rt: &impl Print,
-    frame: Frame,
-    head: Head,
-    budget: u32,
-    store: &[u8],
-    marks: &[u8],
-    scratch: &mut [u8],
-    numbers: &mut [u16],
-    out: &mut [u8],
-) -> io::Result<()> {
-    let told = call(frame, head, budget, store, marks, scratch, numbers, out);
-    print_told(rt, frame.opcode, told)?;
-    print::output(rt, out)?;
-    print::text(rt, " scratch ")?;
-    print_state(rt, bytes_state(scratch))?;
-    print::text(rt, " numbers ")?;
-    print_state(rt, numbers_state(numbers))?;
-    print_rest(rt, frame.opcode, told)
-}
-
-fn output_length(frame: Frame, s: u32) -> usize {
-    let opcode = frame.opcode;
-    match opcode {
-        frame::HAND_OUT => frame.a as usize,
-        frame::BLOCK => frame.b as usize,
-        frame::HAND_OUT_SETS => little::least(frame.a as usize, 4096),
-        _ => little::least(s as usize + 1, 4096),
+fn one(rt: &impl Print, target: Target, held: Held<'_>, bench: &mut Bench<'_>) -> io::Result<()> {
+    let told = call(target, held, bench);
+    let scratch = State::of(bench.scratch);
+    let numbers = State::of(bench.numbers);
+    print!(rt;
+        "{told}{} scratch {scratch} numbers {numbers}",
+        Output(bench.out)
+    )?;
+    if let Told::Content {
+        finished,
+        turns,
+        ..
+    } = told
+    {
+        print!(rt; " finished {} turns {turns}", finished.0)?;
     }
+    println!(rt)
 }
 
-// One number more than a turn takes.
-pub(crate) fn numbers_room() -> [u16; 1025] {
-    [0u16; 1025]
-}
-
-// With scratch and output of the lengths that are asked for.
-fn ask_with(
-    rt: &impl Print,
-    frame: Frame,
-    head: Head,
-    lent: Scratch,
-    store: &[u8],
-    marks: &[u8],
-    scratch: &mut [u8],
-    out: &mut [u8],
-) -> io::Result<()> {
-    let mut room = numbers_room();
-    let end = little::within16(lent.numbers, &room);
-    let numbers = &mut room[..end];
-    if (frame.opcode == frame::HAND_OUT) | (frame.opcode == frame::BLOCK) {
-        one(
-            rt,
-            frame,
-            head,
-            lent.budget,
-            store,
-            marks,
-            scratch,
-            numbers,
-            out,
-        )
-    } else {
-        sets::sweep(
-            rt,
-            frame,
-            head,
-            lent.budget,
-            store,
-            marks,
-            scratch,
-            numbers,
-            out,
-        )
-    }
-}
-
-fn lend(
-    rt: &impl Print,
-    frame: Frame,
-    head: Head,
-    lent: Scratch,
-    store: &[u8],
-    marks: &[u8],
-) -> io::Result<()> {
-    let mut scratch = room::large_buffer();
-    let mut out = room::large_buffer();
-    let scratch_end = little::within8(lent.bytes, &scratch);
-    let out_end = little::within8(output_length(frame, head.s), &out);
-    ask_with(
-        rt,
-        frame,
-        head,
-        lent,
-        store,
-        marks,
-        &mut scratch[..scratch_end],
-        &mut out[..out_end],
-    )
-}
-
-pub(crate) fn ask(
-    rt: &impl Print,
-    frame: Frame,
-    head: Head,
-    lent: Scratch,
-    store: &[u8],
-    marks: &[u8],
-) -> io::Result<()> {
-    let opcode = frame.opcode;
-    match opcode {
-        frame::HAND_OUT | frame::BLOCK | frame::HAND_OUT_SETS | frame::BLOCK_SETS => {
-            lend(rt, frame, head, lent, store, marks)
+pub(crate) fn serve(rt: &impl Print, wish: Wish, held: Held<'_>, lent: Lent) -> io::Result<()> {
+    let content = Target::Content(lent.budget);
+    let (target, room, sets) = match wish {
+        Wish::Content { room } => (content, room, None),
+        Wish::Block { number, room } => (Target::Block(number), room, None),
+        Wish::ContentOfSets { room, sets } => (content, room.min(SETS_ROOM), Some(sets)),
+        Wish::BlockOfSets { number, sets } => {
+            let room = (held.head.s as usize + 1).min(SETS_ROOM);
+            (Target::Block(number), room, Some(sets))
         }
-        _ => Ok(()),
+    };
+    let mut scratch = Buffer::<ROOM>::patterned(lent.bytes);
+    let mut numbers = [u16::PATTERN; NUMBERS_ROOM];
+    let mut out = Buffer::<ROOM>::patterned(room);
+    let mut bench = Bench {
+        scratch: scratch.as_mut_slice(),
+        numbers: front_mut(&mut numbers, lent.numbers),
+        out: out.as_mut_slice(),
+    };
+    match sets {
+        None => one(rt, target, held, &mut bench),
+        Some(sets) => sets::sweep(rt, sets, target, held, &mut bench),
     }
 }

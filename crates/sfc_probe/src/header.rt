@@ -1,237 +1,156 @@
 // Frames that read the file's header.
-use crate::frame::Frame;
-use crate::run::Run;
-use crate::{edit, frame, hand_out, print, room};
-use sfc::{Checked, FieldFound, Head, find_field, number_of, read_header};
-use std::io;
+use crate::buffer::{after_mut, copy, front_mut};
+use crate::edit;
+use crate::frame::{HeadNumber, OnHeader};
+use crate::print::{self, Hex, State};
+use crate::sweep::{Finding, sweep_bytes, sweep_lengths};
+use sfc::{Head, find_field, read_header};
+use std::{fmt, io};
+
+// As long as the longest header with all that stands around it, and a byte more.
+const LONG_ROOM: usize = 65613;
 
 // The head of no file.
 pub(crate) fn none() -> Head {
-    let read = read_header(b"");
-    read.head
-}
-
-// The number of the refusal, and 0 for an accepted header.
-fn answer(file: &[u8]) -> u8 {
-    let read = read_header(file);
-    let verdict = read.verdict;
-    match verdict {
-        Checked::Refused(reason) => number_of(reason),
-        Checked::Good => 0,
+    Head {
+        header_length: 0,
+        uuid: [0; 16],
+        size: 0,
+        format: 0,
+        name: [0; 255],
+        name_length: 0,
+        hash: [0; 32],
+        n: 0,
+        m: 0,
+        s: 0,
+        erasure: 0,
+        compression: 0,
+        flags: 0,
+        priorities: 0,
     }
 }
 
-// The name, and whether zeros follow it.
-fn print_name(rt: &impl Print, name: [u8; 255], length: u8) -> io::Result<()> {
-    let end = little::within8(length as usize, &name);
-    print::bytes(rt, " name=", &name[..end])?;
-    print::text(rt, " then ")?;
-    hand_out::print_state(rt, hand_out::bytes_state(&name[end..]))
+// The name, and what stands after it.
+fn split_name(room: &[u8; 255], length: u8) -> (&[u8], &[u8]) {
+    room.split_at(usize::from(length))
 }
 
-fn print_hash(rt: &impl Print, hash: [u8; 32]) -> io::Result<()> {
-    print::bytes(rt, " hash=", &hash)
-}
+// All that a head says; of the name's room, what stands after the name.
+#[derive(Clone, Copy)]
+struct Told(Head);
 
-fn print_shape(rt: &impl Print, n: u32, m: u32, s: u32) -> io::Result<()> {
-    print::field(rt, " N=", n as u64)?;
-    print::field(rt, " M=", m as u64)?;
-    print::field(rt, " S=", s as u64)
-}
-
-fn print_rest(
-    rt: &impl Print,
-    erasure: u8,
-    compression: u8,
-    flags: u16,
-    priorities: u16,
-) -> io::Result<()> {
-    print::field(rt, " erasure=", erasure as u64)?;
-    print::field(rt, " compression=", compression as u64)?;
-    print::field(rt, " flags=", flags as u64)?;
-    print::field(rt, " P=", priorities as u64)?;
-    print::line_end(rt)
-}
-
-fn print_head(rt: &impl Print, head: Head) -> io::Result<()> {
-    let uuid = head.uuid;
-    let name = head.name;
-    let hash = head.hash;
-    print::field(rt, "good H=", head.header_length as u64)?;
-    print::bytes(rt, " uuid=", &uuid)?;
-    print::field(rt, " size=", head.size)?;
-    print::field(rt, " format=", head.format as u64)?;
-    print_name(rt, name, head.name_length)?;
-    print_hash(rt, hash)?;
-    print_shape(rt, head.n, head.m, head.s)?;
-    print_rest(
-        rt,
-        head.erasure,
-        head.compression,
-        head.flags,
-        head.priorities,
-    )
+impl fmt::Display for Told {
+    fn fmt<W: fmt::Write>(&self, f: &mut fmt::Formatter<W>) -> fmt::Result {
+        let head = self.0;
+        let (name, rest) = split_name(&head.name, head.name_length);
+        write!(
+            f,
+            "good H={} uuid={} size={} format={}",
+            head.header_length,
+            Hex(&head.uuid),
+            head.size,
+            head.format
+        )?;
+        write!(
+            f,
+            " name={} then {} hash={}",
+            Hex(name),
+            State::of(rest),
+            Hex(&head.hash)
+        )?;
+        write!(f, " N={} M={} S={}", head.n, head.m, head.s)?;
+        write!(
+            f,
+            " erasure={} compression={} flags={} P={}",
+            head.erasure, head.compression, head.flags, head.priorities
+        )
+    }
 }
 
 // Reads and prints; a refused header leaves the head that was kept.
-pub(crate) fn read(rt: &impl Print, kept: Head, file: &[u8]) -> io::Result<Head> {
+fn read(rt: &impl Print, kept: &mut Head, file: &[u8]) -> io::Result<()> {
     let read = read_header(file);
-    let verdict = read.verdict;
-    let head = read.head;
-    match verdict {
-        Checked::Refused(reason) => {
-            print::decimal(rt, number_of(reason) as u64)?;
-            print::line_end(rt)?;
-            Ok(kept)
-        }
-        Checked::Good => {
-            print_head(rt, head)?;
-            Ok(head)
-        }
-    }
+    print::answer(rt, read, |head| print!(rt; "{}", Told(head)))?;
+    println!(rt)?;
+    *kept = read.unwrap_or(*kept);
+    Ok(())
 }
 
-fn with_uuid_byte(head: Head, at: usize, value: u8) -> Head {
-    let mut next = head;
-    if at < 16 {
-        next.uuid[at] = value;
+// Another number in the head, which no header need have.
+fn set(head: &mut Head, number: HeadNumber) {
+    match number {
+        HeadNumber::Size(size) => head.size = size,
+        HeadNumber::N(n) => head.n = n,
+        HeadNumber::M(m) => head.m = m,
+        HeadNumber::S(s) => head.s = s,
+        HeadNumber::Erasure(identifier) => head.erasure = identifier,
+        HeadNumber::Compression(identifier) => head.compression = identifier,
+        HeadNumber::UuidByte { at, value } => edit::set_byte(&mut head.uuid, at, value),
     }
-    next
-}
-
-// The head with another number, which no header need have.
-pub(crate) fn with_number(frame: Frame, head: Head) -> Head {
-    let which = frame.small;
-    let mut next = head;
-    match which {
-        0 => next.size = frame.b as u64 * 4294967296 + frame.a as u64,
-        1 => next.n = frame.a,
-        2 => next.m = frame.a,
-        3 => next.s = frame.a,
-        4 => next.erasure = (frame.a % 256) as u8,
-        5 => next.compression = (frame.a % 256) as u8,
-        _ => next = with_uuid_byte(head, frame.a as usize, (frame.b % 256) as u8),
-    }
-    next
 }
 
 // Where the value of a field begins, and its length; a header that is refused gives its number.
-pub(crate) fn find(rt: &impl Print, file: &[u8], tag: u16) -> io::Result<()> {
-    let found = find_field(file, tag);
-    match found {
-        FieldFound::At(place, length) => {
-            print::field(rt, "at ", place.0 as u64)?;
-            print::field(rt, " ", length as u64)?;
-        }
-        FieldFound::Nothing => print::text(rt, "nothing")?,
-        FieldFound::Refused(reason) => print::decimal(rt, number_of(reason) as u64)?,
-    }
-    print::line_end(rt)
-}
-
-// As long as the longest header with all that stands around it, and a byte more.
-fn long_room(value: u8) -> [u8; 65613] {
-    [value; 65613]
+fn find(rt: &impl Print, file: &[u8], tag: u16) -> io::Result<()> {
+    print::answer(rt, find_field(file, tag), |found| match found {
+        Some(field) => print!(rt; "at {} {}", field.at.0, field.length),
+        None => print!(rt; "nothing"),
+    })?;
+    println!(rt)
 }
 
 // Puts the file's last 64 bytes to the end of a longer one, and the others to its front.
 fn put_apart(file: &[u8], long: &mut [u8]) {
-    if file.len() < 64 {
-        return;
+    if let Some((front, trailer)) = file.split_last_chunk::<64>()
+        && 64 <= long.len()
+    {
+        let at = long.len() - 64;
+        copy(trailer, &mut long[at..]);
+        copy(front, long);
     }
-    if long.len() < 64 {
-        return;
-    }
-    let split = little::within8(file.len() - 64, file);
-    let at = long.len() - 64;
-    edit::copy(&file[split..], &mut long[at..]);
-    edit::copy(&file[..split], long);
 }
 
-fn read_apart(rt: &impl Print, kept: Head, file: &[u8], long: &mut [u8]) -> io::Result<Head> {
+// Reads the header of a file that is longer by bytes of one value.
+fn read_long(
+    rt: &impl Print,
+    kept: &mut Head,
+    file: &[u8],
+    count: usize,
+    value: u8,
+) -> io::Result<()> {
+    let mut room = [value; LONG_ROOM];
+    let long = front_mut(&mut room, file.len().saturating_add(count));
     put_apart(file, long);
     edit::seal_header(long);
     read(rt, kept, long)
 }
 
-// Reads the header of a file that is longer by bytes of one value.
-pub(crate) fn read_long(
-    rt: &impl Print,
-    frame: Frame,
-    kept: Head,
-    file: &[u8],
-) -> io::Result<Head> {
-    let mut room = long_room(frame.small);
-    let length = little::least(file.len(), 65536) + frame.a as usize;
-    let end = little::within8(length, &room);
-    read_apart(rt, kept, file, &mut room[..end])
+fn answer(file: &[u8]) -> Finding {
+    Finding::from(read_header(file).err())
 }
 
-// The answer with one byte changed, and the trailer sealed if that is asked for.
-fn changed_answer(file: &mut [u8], at: usize, mask: u8, sealed: bool) -> u8 {
-    let old = little::byte_at(file, at);
-    edit::set_byte(file, at, old ^ mask);
-    if !sealed {
-        return answer(file);
-    }
-    edit::seal_header(file);
-    answer(file)
-}
-
-fn sweep_bytes(
+pub(crate) fn serve(
     rt: &impl Print,
+    ask: OnHeader,
+    head: &mut Head,
     file: &mut [u8],
-    from: usize,
-    to: usize,
-    mask: u8,
-    sealed: bool,
 ) -> io::Result<()> {
-    let mut before = room::large_buffer();
-    edit::copy(file, &mut before);
-    let end = little::least(to, file.len());
-    let mut run = Run::new();
-    let mut at = from;
-    while at < end {
-        let answer = changed_answer(file, at, mask, sealed);
-        edit::copy(&before, file);
-        let next = run.take(rt, at as u64, answer)?;
-        run = next;
-        at += 1;
-    }
-    run.end(rt, end as u64)
-}
-
-fn prefix_answer(file: &[u8], length: usize) -> u8 {
-    let end = little::within8(length, file);
-    answer(&file[..end])
-}
-
-fn sweep_lengths(rt: &impl Print, file: &[u8], from: usize, to: usize) -> io::Result<()> {
-    let end = little::least(to, file.len());
-    let mut run = Run::new();
-    let mut length = from;
-    while length < end {
-        let next = run.take(rt, length as u64, prefix_answer(file, length))?;
-        run = next;
-        length += 1;
-    }
-    run.end(rt, end as u64)
-}
-
-pub(crate) fn sweep(rt: &impl Print, frame: Frame, file: &mut [u8]) -> io::Result<()> {
-    let opcode = frame.opcode;
-    let from = frame.a as usize;
-    let to = frame.b as usize;
-    if opcode == frame::HEADER_LENGTHS {
-        sweep_lengths(rt, file, from, to)
-    } else {
-        sweep_bytes(
-            rt,
-            file,
-            from,
-            to,
-            frame.small,
-            opcode == frame::HEADER_BYTES_SEALED,
-        )
+    let length = file.len();
+    match ask {
+        OnHeader::Read => read(rt, head, file),
+        OnHeader::Bytes { from, to, damage } => {
+            sweep_bytes(rt, file, from..to.min(length), damage.mask, |file| {
+                if damage.sealed {
+                    edit::seal_header(file);
+                }
+                answer(file)
+            })
+        }
+        OnHeader::Lengths { from, to } => sweep_lengths(rt, file, from..to.min(length), answer),
+        OnHeader::FindField { tag } => find(rt, file, tag),
+        OnHeader::SetHead(number) => {
+            set(head, number);
+            Ok(())
+        }
+        OnHeader::Long { count, value } => read_long(rt, head, file, count, value),
     }
 }

@@ -1,104 +1,57 @@
 // Frames that ask what a session knows: its prefix, its counts, its missing list and its note.
-use crate::frame::Frame;
-use crate::{frame, note, print, room};
-use sfc::{
-    Head, Listed, MarksCounted, PrefixGiven, count_marks, list_missing, list_ranges, number_of,
-    prefix, write_note,
-};
+use crate::buffer::{Buffer, ROOM, front_mut};
+use crate::frame::Known;
+use crate::hand_out::Held;
+use crate::note::LONGEST_LIST;
+use crate::print::{self, Hex, Lendable, Words};
+use sfc::{Head, Reason, count_marks, list_missing, list_ranges, prefix, write_note};
 use std::io;
 
-fn print_given(rt: &impl Print, given: PrefixGiven) -> io::Result<()> {
-    match given {
-        PrefixGiven::Unverified(blocks, bytes) => {
-            print::field(rt, "unverified ", blocks.0 as u64)?;
-            print::field(rt, " ", bytes.0 as u64)
-        }
-        PrefixGiven::Refused(reason) => print::decimal(rt, number_of(reason) as u64),
-    }
-}
-
-fn print_listed(rt: &impl Print, listed: Listed) -> io::Result<()> {
-    match listed {
-        Listed::Count(count) => print::field(rt, "listed ", count as u64),
-        Listed::Refused(reason) => print::decimal(rt, number_of(reason) as u64),
-    }
-}
-
-fn give(rt: &impl Print, head: Head, store: &[u8], marks: &[u8], out: &mut [u8]) -> io::Result<()> {
-    let given = prefix(head, store, marks, out);
-    print_given(rt, given)
-}
-
-// What is missing, index by index or as ranges.
-fn list(rt: &impl Print, opcode: u8, head: Head, marks: &[u8], out: &mut [u32]) -> io::Result<()> {
-    if opcode == frame::LIST_MISSING {
-        print_listed(rt, list_missing(head, marks, out))
-    } else {
-        print_listed(rt, list_ranges(head, marks, out))
-    }
-}
-
 fn count(rt: &impl Print, head: Head, marks: &[u8]) -> io::Result<()> {
-    let counted = count_marks(head, marks);
-    match counted {
-        MarksCounted::Counts(held, barred) => {
-            print::field(rt, "held ", held as u64)?;
-            print::field(rt, " barred ", barred as u64)?;
-        }
-        MarksCounted::Refused(reason) => print::decimal(rt, number_of(reason) as u64)?,
-    }
-    print::line_end(rt)
+    print::answer(rt, count_marks(head, marks), |counted| {
+        print!(rt; "held {} barred {}", counted.held, counted.barred)
+    })?;
+    println!(rt)
 }
 
-fn write(rt: &impl Print, head: Head, marks: &[u8], out: &mut [u8]) -> io::Result<()> {
-    let written = write_note(head, marks, out);
-    print::written(rt, "note ", written)?;
-    Ok(())
+fn give(rt: &impl Print, held: Held<'_>, room: usize) -> io::Result<()> {
+    let mut out = Buffer::<ROOM>::patterned(room);
+    let given = prefix(held.head, held.store, held.marks, out.as_mut_slice());
+    print::answer(
+        rt,
+        given,
+        |prefix| print!(rt; "unverified {} {}", prefix.blocks.0, prefix.end.0),
+    )?;
+    println!(rt; " {}", Hex(out.as_slice()))
 }
 
-// The prefix or the note into an output of that many bytes.
-fn into_bytes(
+fn write(rt: &impl Print, held: Held<'_>, room: usize) -> io::Result<()> {
+    let mut out = Buffer::<ROOM>::patterned(room);
+    let written = write_note(held.head, held.marks, out.as_mut_slice());
+    print::answer(rt, written, |length| print!(rt; "note {length}"))?;
+    println!(rt; " {}", Hex(out.as_slice()))
+}
+
+// What is missing, as `list_into` lists it in an output of that many numbers.
+fn list<L: FnOnce(&mut [u32]) -> Result<usize, Reason>>(
     rt: &impl Print,
-    frame: Frame,
-    head: Head,
-    store: &[u8],
-    marks: &[u8],
-) -> io::Result<()> {
-    let mut room = room::large_buffer();
-    let end = little::within8(frame.a as usize, &room);
-    let out = &mut room[..end];
-    little::fill8(out, 0xA5);
-    if frame.opcode == frame::PREFIX {
-        give(rt, head, store, marks, out)?;
-    } else {
-        write(rt, head, marks, out)?;
-    }
-    print::bytes(rt, " ", out)?;
-    print::line_end(rt)
+    room: usize,
+    list_into: L,
+) -> io::Result<()>
+    requires { L.IsAlwaysCallable list_into }
+{
+    let mut numbers = [u32::PATTERN; LONGEST_LIST];
+    let out = front_mut(&mut numbers, room);
+    print::answer(rt, list_into(out), |count| print!(rt; "listed {count}"))?;
+    println!(rt; "{}", Words(out))
 }
 
-// The missing list into an output of that many numbers.
-fn into_numbers(rt: &impl Print, frame: Frame, head: Head, marks: &[u8]) -> io::Result<()> {
-    let mut room = note::patterned();
-    let end = little::within32(frame.a as usize, &room);
-    let out = &mut room[..end];
-    list(rt, frame.opcode, head, marks, out)?;
-    print::numbers(rt, out)?;
-    print::line_end(rt)
-}
-
-pub(crate) fn ask(
-    rt: &impl Print,
-    frame: Frame,
-    head: Head,
-    store: &[u8],
-    marks: &[u8],
-) -> io::Result<()> {
-    let opcode = frame.opcode;
-    match opcode {
-        frame::PREFIX | frame::WRITE_NOTE => into_bytes(rt, frame, head, store, marks),
-        frame::LIST_MISSING | frame::LIST_RANGES => into_numbers(rt, frame, head, marks),
-        frame::COUNT_MARKS => count(rt, head, marks),
-        _ => Ok(()),
+pub(crate) fn serve(rt: &impl Print, ask: Known, held: Held<'_>) -> io::Result<()> {
+    match ask {
+        Known::Prefix { room } => give(rt, held, room),
+        Known::WriteNote { room } => write(rt, held, room),
+        Known::Missing { room } => list(rt, room, |out| list_missing(held.head, held.marks, out)),
+        Known::Ranges { room } => list(rt, room, |out| list_ranges(held.head, held.marks, out)),
+        Known::CountMarks => count(rt, held.head, held.marks),
     }
 }

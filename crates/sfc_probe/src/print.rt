@@ -1,94 +1,121 @@
-// What the answers are printed with.
-use sfc::{ColumnCount, Spot, Written, number_of};
-use std::io;
+// How answers, outputs and lent memory are printed.
+use sfc::{ColumnCount, Reason};
+use std::{fmt, io};
 
-pub(crate) fn text(rt: &impl Print, t: &str) -> io::Result<()> {
-    print!(rt; "{t}")
-}
+// Each byte as two digits. blake3_vectors and cauchy_vectors have such a type: the programs share no crate of their own.
+#[derive(Clone, Copy)]
+pub(crate) struct Hex<'a>(pub(crate) &'a [u8]);
 
-pub(crate) fn line_end(rt: &impl Print) -> io::Result<()> {
-    text(rt, "\n")
-}
-
-pub(crate) fn decimal(rt: &impl Print, n: u64) -> io::Result<()> {
-    print!(rt; "{n}")
-}
-
-fn two_digits(rt: &impl Print, byte: u8) -> io::Result<()> {
-    print!(rt; "{byte:02x}")
-}
-
-// A label and each byte as two digits.
-pub(crate) fn bytes(rt: &impl Print, label: &str, b: &[u8]) -> io::Result<()> {
-    text(rt, label)?;
-    let mut i = 0;
-    while i < b.len() {
-        two_digits(rt, b[i])?;
-        i += 1;
+impl fmt::Display for Hex<'_> {
+    fn fmt<W: fmt::Write>(&self, f: &mut fmt::Formatter<W>) -> fmt::Result {
+        for byte in self.0 {
+            write!(f, "{byte:02x}")?;
+        }
+        Ok(())
     }
-    Ok(())
+}
+
+// Each number as eight digits, after a space. A format is a literal, so this stands beside the bytes' own.
+#[derive(Clone, Copy)]
+pub(crate) struct Words<'a>(pub(crate) &'a [u32]);
+
+impl fmt::Display for Words<'_> {
+    fn fmt<W: fmt::Write>(&self, f: &mut fmt::Formatter<W>) -> fmt::Result {
+        for word in self.0 {
+            write!(f, " {word:08x}")?;
+        }
+        Ok(())
+    }
 }
 
 // A short output byte by byte, and the hash of a longer one.
-pub(crate) fn output(rt: &impl Print, out: &[u8]) -> io::Result<()> {
-    if out.len() <= 64 {
-        bytes(rt, " ", out)
-    } else {
-        let hash = blake3::hash(out);
-        bytes(rt, " hash ", &hash)
+#[derive(Clone, Copy)]
+pub(crate) struct Output<'a>(pub(crate) &'a [u8]);
+
+impl fmt::Display for Output<'_> {
+    fn fmt<W: fmt::Write>(&self, f: &mut fmt::Formatter<W>) -> fmt::Result {
+        if self.0.len() <= 64 {
+            return write!(f, " {}", Hex(self.0));
+        }
+        write!(f, " hash {}", Hex(&blake3::hash(self.0)))
     }
-}
-
-fn eight_digits(rt: &impl Print, number: u32) -> io::Result<()> {
-    text(rt, " ")?;
-    print!(rt; "{number:08x}")
-}
-
-// Each number as eight digits.
-pub(crate) fn numbers(rt: &impl Print, numbers: &[u32]) -> io::Result<()> {
-    let mut i = 0;
-    while i < numbers.len() {
-        eight_digits(rt, numbers[i])?;
-        i += 1;
-    }
-    Ok(())
-}
-
-// A label and a number.
-pub(crate) fn field(rt: &impl Print, label: &str, n: u64) -> io::Result<()> {
-    text(rt, label)?;
-    decimal(rt, n)
 }
 
 // The scratch of a session: its length, and that it is zeros or, as an output, what it has; and the columns finished in it.
-pub(crate) fn work(rt: &impl Print, scratch: &[u8], finished: ColumnCount) -> io::Result<()> {
-    field(rt, " scratch ", scratch.len() as u64)?;
-    if little::are_all8(scratch, 0) {
-        text(rt, " zeros")?;
-    } else {
-        output(rt, scratch)?;
-    }
-    field(rt, " finished ", finished.0 as u64)
+#[derive(Clone, Copy)]
+pub(crate) struct Rebuilt<'a> {
+    pub(crate) scratch: &'a [u8],
+    pub(crate) finished: ColumnCount,
 }
 
-// Where a chunk broke.
-pub(crate) fn spot(rt: &impl Print, spot: Spot) -> io::Result<()> {
-    match spot {
-        Spot::At(place) => field(rt, " at ", place.0 as u64),
-        Spot::Nowhere => text(rt, " nowhere"),
+impl fmt::Display for Rebuilt<'_> {
+    fn fmt<W: fmt::Write>(&self, f: &mut fmt::Formatter<W>) -> fmt::Result {
+        write!(f, " scratch {}", self.scratch.len())?;
+        match State::of(self.scratch) {
+            State::Zeros => f.write_str(" zeros")?,
+            _ => write!(f, "{}", Output(self.scratch))?,
+        }
+        write!(f, " finished {}", self.finished.0)
     }
 }
 
-// A label and how many bytes were written, or the refusal's number. The answer is how many, and 0 with a refusal.
-pub(crate) fn written(rt: &impl Print, label: &str, written: Written) -> io::Result<usize> {
-    match written {
-        Written::Bytes(length) => {
-            field(rt, label, length as u64)?;
-            Ok(length)
+// What lent memory is made of, and the pattern that it has before a call.
+pub(crate) trait Lendable: little::Zero + PartialEq {
+    const PATTERN: Self;
+}
+
+impl Lendable for u8 {
+    const PATTERN: u8 = 0xA5;
+}
+
+impl Lendable for u16 {
+    const PATTERN: u16 = 0xA5A5;
+}
+
+impl Lendable for u32 {
+    const PATTERN: u32 = 0xA5A5A5A5;
+}
+
+// What became of lent memory: all zeros, as before the call, or neither.
+#[derive(Clone, Copy, PartialEq, Eq)]
+pub(crate) enum State {
+    Zeros,
+    Kept,
+    Mixed,
+}
+
+impl State {
+    pub(crate) fn of<T: Lendable>(items: &[T]) -> State {
+        if little::are_all(items, T::ZERO) {
+            State::Zeros
+        } else if little::are_all(items, T::PATTERN) {
+            State::Kept
+        } else {
+            State::Mixed
         }
-        Written::Refused(reason) => {
-            decimal(rt, number_of(reason) as u64)?;
-            Ok(0)
-        }
+    }
+}
+
+impl fmt::Display for State {
+    fn fmt<W: fmt::Write>(&self, f: &mut fmt::Formatter<W>) -> fmt::Result {
+        f.write_str(match self {
+            State::Zeros => "zeros",
+            State::Kept => "kept",
+            State::Mixed => "mixed",
+        })
+    }
+}
+
+// What a call gave, as the caller tells it, or the number of its refusal.
+pub(crate) fn answer<T, F: FnOnce(T) -> io::Result<()>>(
+    rt: &impl Print,
+    answer: Result<T, Reason>,
+    tell: F,
+) -> io::Result<()>
+    requires { F.IsAlwaysCallable tell }
+{
+    match answer {
+        Ok(given) => tell(given),
+        Err(reason) => print!(rt; "{}", u8::from(reason)),
     }
 }

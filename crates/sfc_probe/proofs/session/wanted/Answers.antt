@@ -1,8 +1,8 @@
--- `sfc_probe::work::wanted` is safe: two numbers below 2^32 have a product below 2^64. Assumes nothing.
+-- `sfc_probe::session::wanted` is safe: two numbers below 2^32 have a product below 2^64. Assumes nothing.
 use Prim.Native.Nat.{◌*◌, ◌≤◌}
 use native.Mathlib.Nat.{mul-le-mul}
 use native.Mathlib.Omega.{arith}
-use Rattle.sfc_probe.proofs.work.wanted.Goals as goal
+use Rattle.sfc_probe.proofs.session.wanted.Goals as goal
 
 pub overflow_mul-result : goal.overflow_mul-result
 overflow_mul-result c =
