@@ -25,7 +25,7 @@ pub(crate) fn marks<const N: usize, F: Fn(usize) -> bool>(gone: F) -> [u8; N]
     array::from_fn(|i| if gone(i) { [0, 2, 7][i % 3] } else { 1 })
 }
 
-// Leaves garbage where the blocks of s bytes are not held.
+// Leaves garbage where the blocks of s bytes are not held, which the marks tell.
 pub(crate) fn damage(store: &mut [u8], marks: &[u8], s: usize)
     requires { 0 < s }
 {

@@ -20,7 +20,7 @@ fn put_marks(marks: &mut [u8], set: u8, base: u8) {
     }
 }
 
-// The store, with other bytes in blocks that are not held.
+// The store, with other bytes in blocks that are not held, which the marks tell.
 fn put_store(store: &[u8], marks: &[u8], width: usize, seen: &mut [u8]) {
     copy(store, seen);
     if width == 0 {

@@ -21,7 +21,7 @@ pub struct UnverifiedBlock {
 }
 
 // Past 71, 53 and 52: data block j to the output's front, and whether it could be had. A bool and no Result: the answer is the
-// test itself, and `put_if` of the promise and `refuse_if` take it as one.
+// test itself, and `put_if` of the promise and `refuse_if` take it as one. Lent as the call below is.
 fn give_block(
     h: &Head,
     j: u32,

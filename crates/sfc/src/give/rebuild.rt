@@ -6,7 +6,7 @@ use crate::format::header::Head;
 use cauchy::Shape;
 
 // Whether it could be done: with fewer than n held it cannot. A bool and no Result: the answer is the test itself, of which
-// `give_block` makes its own.
+// `give_block` makes its own. Lent as the block request is: session/lent.rt says why one by one.
 pub(crate) fn rebuild_missing(
     h: &Head,
     store: &[u8],

@@ -40,7 +40,7 @@ fn give_checked(content: &Gathered, hash: [u8; 32], out: &mut [u8]) -> bool
     true
 }
 
-// Past 71, 52, 50 and 54.
+// Past 71, 52, 50 and 54; lent as the release is.
 fn give_joined(
     h: Head,
     store: &[u8],
@@ -68,7 +68,7 @@ fn give_joined(
     })
 }
 
-// 71, 52, 50 and 54, by which nothing changes.
+// 71, 52, 50 and 54, by which nothing changes; lent as the release is.
 fn check_lent(
     h: Head,
     store: &[u8],

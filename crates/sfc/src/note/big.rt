@@ -27,7 +27,7 @@ fn fill_big(d: &mut [u8], v: u32)
     }
 }
 
-// Stores `width` bytes of v from `at` on.
+// Stores `width` bytes of v from `at` on: the law of `put` that its callers cite says it of a place in the whole output.
 pub(crate) fn put_big(out: &mut [u8], at: usize, width: usize, v: u32)
     requires { at + width ≤ length out.old }
     ensures { out.new ≡ put out.old at (big_bytes width v) }

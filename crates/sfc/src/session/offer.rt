@@ -32,7 +32,7 @@ pub struct OfferAnswer {
     pub finished: ColumnCount,
 }
 
-// What the session makes of a chunk, before the place is found.
+// What the session makes of a chunk, before the place is found: a verdict, which is no flag, and the tallies after it, by value.
 #[derive(Drop)]
 struct Judgement {
     verdict: Verdict,
@@ -76,7 +76,7 @@ fn refused(reason: Reason, tallies: Tallies) -> Judgement
     }
 }
 
-// A chunk that passed every check of its own meets its block.
+// A chunk that passed every check of its own meets its block; lent as the offer is.
 fn offer_whole(
     h: Head,
     tallies: Tallies,
@@ -115,7 +115,7 @@ fn offer_whole(
     }
 }
 
-// 71, 43, the checks of the chunk, and then its block.
+// 71, 43, the checks of the chunk, and then its block; lent as the offer is.
 fn offer_chunk(
     h: Head,
     tallies: Tallies,
