@@ -1,7 +1,9 @@
 -- Laws of the compression, which the proofs of its functions cite: a rotation by shifts, a half round from its four
 -- mixing steps, seven rounds from their halves, words and blocks from bytes. Assumes nothing.
-use Rattle.std.proofs.Common.{◌≡◌, ℕ, zero, suc, ◌+◌, ◌-◌, ◌*◌, ◌/◌, ◌%◌, ◌^◌, ◌<◌, ◌≤◌, List, [], ◌∷◌, ◌++◌, length, take, drop, get_or, replicate, sym, refl, subst, ap, ◌∙◌, append_assoc, add-zero, arith, shr_lt, drop-cons, length-drop, take_all, get_or-take}
+use Rattle.std.proofs.Common.{◌≡◌, ℕ, zero, suc, ◌+◌, ◌-◌, ◌*◌, ◌/◌, ◌%◌, ◌^◌, ◌<◌, ◌≤◌, List, [], ◌∷◌, ◌++◌, length, take, drop, set, get_or, sym, refl, subst, ap, ◌∙◌, append_assoc, add-zero, arith, shr_lt, drop-cons, length-drop, length-set, take_all, get_or-take}
+use native.Mathlib.Decide.{ℕ_discrete}
 use native.Mathlib.Nat.{mul-mod_left}
+use Rattle.std.proofs.lemmas.List.{get_or-set_same, get_or-set_other}
 use lib.Bits.{bit_or, bit_xor, or_shifted_r}
 use Rattle.std.specs.Int.{rotate_right, from_le_bytes, to_le_bytes, w32}
 use Rattle.std.proofs.Math.Seq.{take-suc}
@@ -10,7 +12,7 @@ use Rattle.std.proofs.lemmas.Slice.{take-put_mid}
 use borrow.Rule.Slice.PartMut.{put_mid}
 use lib.Pow.{mod-pow-add, shl-shr}
 use Rattle.little.specs.Fields.{le, bytes_of}
-use Rattle.little.proofs.Laws.{part_laws, put_laws, byte_laws}
+use Rattle.little.proofs.Laws.{put_laws, byte_laws}
 use Rattle.blake3.specs.Compress.{at, sum32, rotated, mixed, columns, diagonals, round, reordered, rounds, words_from, bytes_of_words}
 use Rattle.blake3.specs.Tree.{block_words}
 
@@ -128,17 +130,14 @@ words_same (suc n) j xs ys f =
 pub block_front : (xs : List ℕ) → block_words (take 64 xs) ≡ block_words xs
 block_front xs = words_same 16 0 (take 64 xs) xs (λ k lt. get_or-take 64 xs k 0 lt)
 
-get_or-padded : (xs : List ℕ) (n k : ℕ) → get_or (xs ++ replicate n 0) k 0 ≡ get_or xs k 0
-get_or-padded [] zero k = refl
-get_or-padded [] (suc n) zero = refl
-get_or-padded [] (suc n) (suc k) = get_or-padded [] n k
-get_or-padded (x ∷ xs) n zero = refl
-get_or-padded (x ∷ xs) n (suc k) = get_or-padded xs n k
-
-pub block_padded : (xs : List ℕ) → block_words (xs ++ drop (length xs) (replicate 64 0)) ≡ block_words xs
-block_padded xs =
-    ap (λ (zs : List ℕ). block_words (xs ++ zs)) (part_laws.drop-zeros (length xs) 64)
-    ∙ words_same 16 0 (xs ++ replicate (64 - length xs) 0) xs (λ k lt. get_or-padded xs (64 - length xs) k)
+-- one element more is what the law of the list gives at its place
+pub one_more : (ws : List ℕ) (f : ℕ → ℕ) (n j : ℕ) {v : ℕ} → length ws ≡ n → j < n → ((i : ℕ) → i < j → get_or ws i 0 ≡ f i) → v ≡ f j
+    → (length (set ws j v) ≡ n) × ((i : ℕ) → i < j + 1 → get_or (set ws j v) i 0 ≡ f i)
+one_more ws f n j {v} l lt before e = (length-set ws j v ∙ l, λ i below. go i below (ℕ_discrete i j))
+  where
+    go : (i : ℕ) → i < j + 1 → Dec (i ≡ j) → get_or (set ws j v) i 0 ≡ f i
+    go i below (yes q) = let room : j < length ws = omega (arith, l, lt) in rw q (get_or-set_same ws j v 0 room ∙ e)
+    go i below (no d) = get_or-set_other ws j i v 0 d ∙ before i (omega (arith, below, d))
 
 -- ---- the bytes of words
 

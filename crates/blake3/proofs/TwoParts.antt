@@ -2,7 +2,7 @@
 use Rattle.std.proofs.Common.{◌≡◌, ℕ, ◌+◌, ◌<◌, ◌≤◌, Bool, List, ◌++◌, length, sym, refl, ap, ◌∙◌, arith, ltb, length-append, ltb-false, ltb-true, le-ltb, lt-ltb}
 use Rattle.std.specs.Prelude.{Result, Ok, Err, is_ok, IsErr}
 use Rattle.std.proofs.lemmas.Bool.{false≢true}
-use Rattle.blake3.specs.Running.{most_fed, with_bytes, fresh, finished, fed_with, answer_of, after_feed, hashed_two}
+use Rattle.blake3.specs.Running.{most_fed, with_bytes, fresh, finished, fed_with, answer_of, after_feed, room_for, hashed_two}
 use Rattle.blake3.specs.declared.running.Running.{Running}
 use Rattle.blake3.specs.declared.running.Reason.{Reason}
 use Rattle.blake3.specs.declared.running.Reason.TheVariants.{RunningHash}
@@ -33,6 +33,14 @@ too_long : (first second : List ℕ) (h : Result (List ℕ) Reason) → IsErr h 
 unfolding hashed_two
 too_long first second (Ok x) e lt = absurd (false≢true e)
 too_long first second (Err RunningHash) e lt = rw (lt-ltb most_fed (length first + length second) lt)
+
+-- so what the lengths come to is told before anything is fed
+pub both_refused : (first second : List ℕ) (h : Result (List ℕ) Reason) (why : Reason) → Err why ≡ room_for (length first + length second) → IsErr h
+    → h ≡ hashed_two first second
+both_refused first second h why e eh =
+    either (ltb most_fed (length first + length second))
+    (λ t. too_long first second h eh (ltb-true most_fed (length first + length second) t))
+    (λ t. let f = rw t at e in absurd (false≢true (ap taken f)))
 
 module _ (first second : List ℕ) {r : Running} (new : r ≡ fresh) where
   none_fed : r.fed ≡ 0

@@ -24,17 +24,25 @@ fn whole_block(b: &[u8; BLOCK_LENGTH]) -> [u32; 16]
     array::from_fn(|k| word(b, 4 * k))
 }
 
+// The words of a short block, with zeros past its end. They are read one by one: a copy whose length is not known beforehand
+// would call the C library, of which a program that links the hash alone needs nothing else.
+fn short_block(b: &[u8]) -> [u32; 16]
+    ensures { result ≡ block_words b.now }
+{
+    let mut words = [0u32; 16];
+    for k in 0..16 {
+        words[k] = little::read32(b, 4 * k);
+    }
+    words
+}
+
 // The words of a block of any length: a short one is read as if zeros stood after it.
 pub fn block(b: &[u8]) -> [u32; 16]
     ensures { result ≡ block_words b.now }
 {
     match b.first_chunk() {
         Some(whole) => whole_block(whole),
-        None => {
-            let mut padded = [0u8; BLOCK_LENGTH];
-            padded[..b.len()].copy_from_slice(b);
-            whole_block(&padded)
-        }
+        None => short_block(b),
     }
 }
 

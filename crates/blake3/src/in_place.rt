@@ -3,7 +3,7 @@
 ghost use Rattle.std.specs.Prelude.{◌≡◌};
 ghost use Rattle.blake3.specs.Running as spec;
 
-use crate::running::{Reason, Running};
+use crate::running::{Reason, Running, check_room};
 
 // Feeds the record that is lent; a refusal leaves it as it stood.
 pub fn feed_in_place(state: &mut Running, part: &[u8]) -> Result<(), Reason>
@@ -22,10 +22,11 @@ pub fn finish_in_place(state: &Running) -> Result<[u8; 32], Reason>
 }
 
 // The hash of two parts, one after the other, through one record and the two calls above: a refusal, where they are too long
-// together.
+// together. The lengths are judged first, so that no part is fed in vain.
 pub fn hash_two_in_place(first: &[u8], second: &[u8]) -> Result<[u8; 32], Reason>
     ensures { result ≡ spec.hashed_two first.now second.now }
 {
+    check_room(first.len() as u64, second.len())?;
     let mut state = Running::new();
     feed_in_place(&mut state, first)?;
     feed_in_place(&mut state, second)?;
