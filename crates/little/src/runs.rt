@@ -64,7 +64,11 @@ pub fn clear<T: Zero>(d: &mut [T])
 pub fn are_all<T: Copy + PartialEq>(s: &[T], value: T) -> bool
     ensures { result ≡ are_all T.eq value s.now }
 {
-    s.iter().all(|x| *x == value)
+    let mut all = true;
+    for x in s {
+        all &= *x == value;
+    }
+    all
 }
 
 // Whether two runs are the same bytes: std's `==`, promised in this crate's word for it. Runs of two lengths are not.

@@ -6,7 +6,7 @@ use mathlib.Core.Bool.{Bool, true, false, not, ◌&&◌, ◌||◌}
 use mathlib.Core.List.{List, ◌∷◌}
 use native.Mathlib.Omega.{arith}
 use mathlib.Core.Logic.{⊎_elim}
-use borrow.Author.Tests.{eq-eqb, ne_eqb, lt-ltb, le-ltb, lt-leb, le-leb}
+use borrow.Author.Tests.{lt-ltb, le-ltb, lt-leb, le-leb}
 use lib.Dec.{eqb, ltb, leb}
 use lib.ListN.{length, get_or, drop}
 use Rattle.std.proofs.Math.Seq.{drop-cons}
@@ -48,30 +48,33 @@ stored r from end k e room =
 
 -- ---- whether x is among them
 
-module _ (xs : List ℕ) (x from : ℕ) where
-  -- it is from place i on exactly if it is at all
-  pub Looking : ℕ → Type 0
-  Looking i = any (eqb x) (drop i xs) ≡ any (eqb x) (drop from xs)
+or-none : (found : Bool) → (found || false) ≡ found
+or-none true = refl
+or-none false = refl
 
-  pub looking_start : Looking from
+or_more : (found here rest : Bool) → (found || (here || rest)) ≡ ((found || here) || rest)
+or_more true here rest = refl
+or_more false here rest = refl
+
+module _ (xs : List ℕ) (x from : ℕ) where
+  -- it was found before place i, or is one of those from there on, exactly if it is one at all
+  pub Looking : Bool → ℕ → Type 0
+  Looking found i = (found || any (eqb x) (drop i xs)) ≡ any (eqb x) (drop from xs)
+
+  pub looking_start : Looking false from
   unfolding Looking
   looking_start = refl
 
-  pub looking_end : (i : ℕ) → length xs ≤ i → Looking i → false ≡ any (eqb x) (drop from xs)
+  pub looking_more : (found : Bool) (i : ℕ) → i < length xs → Looking found i → Looking (found || eqb x (get_or xs i 0)) (i + 1)
   unfolding Looking any
-  looking_end i h w = rw (drop_all i xs h) at w
+  looking_more found i h w =
+      let e : suc i ≡ i + 1 = omega arith in
+      let by_one : (found || (eqb x (get_or xs i 0) || any (eqb x) (drop (suc i) xs))) ≡ any (eqb x) (drop from xs) = rw (drop-cons xs i 0 h) at w in
+      sym (or_more found (eqb x (get_or xs i 0)) (any (eqb x) (drop (i + 1) xs))) ∙ rw e at by_one
 
-  module _ (i : ℕ) (h : i < length xs) (w : Looking i) where
-    by_one : (eqb x (get_or xs i 0) || any (eqb x) (drop (suc i) xs)) ≡ any (eqb x) (drop from xs)
-    unfolding Looking any
-    by_one = rw (drop-cons xs i 0 h) at w
-
-    pub found_here : get_or xs i 0 ≡ x → true ≡ any (eqb x) (drop from xs)
-    found_here e = rw (eq-eqb x (get_or xs i 0) (sym e)) at by_one
-
-    pub other_here : (get_or xs i 0 ≡ x → ⊥) → Looking (i + 1)
-    unfolding Looking
-    other_here d = let e : suc i ≡ i + 1 = omega arith in rw (ne_eqb x (get_or xs i 0) (λ q. d (sym q)), e) at by_one
+  pub looking_end : (found : Bool) (i : ℕ) → length xs ≤ i → Looking found i → found ≡ any (eqb x) (drop from xs)
+  unfolding Looking any
+  looking_end found i h w = let f : (found || false) ≡ any (eqb x) (drop from xs) = rw (drop_all i xs h) at w in sym (or-none found) ∙ f
 
 -- ---- whether each is below n, and none stands twice
 

@@ -55,12 +55,11 @@ impl<'a> Numbers for Stored<'a> {
 fn is_among<L: Numbers>(x: u32, list: &L, from: usize) -> bool
     ensures { result ≡ any (eqb x) (drop from (L.numbers list.now)) }
 {
+    let mut found = false;
     for i in from..list.count() {
-        if list.number(i) == x {
-            return true;
-        }
+        found |= x == list.number(i);
     }
-    false
+    found
 }
 
 // Whether each of them is below n, and none stands twice.

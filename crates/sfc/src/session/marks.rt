@@ -28,13 +28,23 @@ pub struct MarksCounted {
 pub(crate) fn are_marks_known(marks: &[u8]) -> bool
     ensures { result ≡ marks_known marks.now }
 {
-    marks.iter().all(|mark| *mark < KINDS)
+    let mut known = true;
+    for mark in marks {
+        known &= *mark < KINDS;
+    }
+    known
 }
 
 fn barred_count(marks: &[u8]) -> usize
     ensures { result ≡ barred_count marks.now }
 {
-    marks.iter().filter(|mark| **mark == BARRED).count()
+    let mut barred = 0;
+    for mark in marks {
+        if *mark == BARRED {
+            barred += 1;
+        }
+    }
+    barred
 }
 
 // What a session came to, in numbers.
