@@ -5,7 +5,7 @@
 ghost use Rattle.std.specs.Prelude.{◌<◌};
 
 use blake3::{Reason, Running};
-use std::{array, fmt, io};
+use std::{fmt, io};
 
 const LENGTHS: [usize; 35] = [
     0, 1, 2, 3, 4, 5, 6, 7, 8, 63, 64, 65, 127, 128, 129, 1023, 1024, 1025, 2048, 2049, 3072, 3073,
@@ -89,7 +89,11 @@ fn in_parts(rt: &impl Print, bytes: &[u8]) -> io::Result<()> {
 }
 
 fn main(rt: HostRuntime) -> io::Result<()> {
-    let bytes: [u8; 102400] = array::from_fn(|i| (i % 251) as u8);
+    // filled where it stands: an array from a function would be laid down twice on the stack
+    let mut bytes = [0u8; 102400];
+    for (i, byte) in bytes.iter_mut().enumerate() {
+        *byte = (i % 251) as u8;
+    }
     at_once(&rt, &bytes)?;
     in_parts(&rt, &bytes)
 }

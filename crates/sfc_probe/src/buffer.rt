@@ -54,11 +54,13 @@ impl<const N: usize> Buffer<N> {
         }
     }
 
-    // So many bytes of the pattern that an output has before a call.
+    // So many bytes of the pattern that an output has before a call; the room behind them has it too, and nobody reads there. It is
+    // laid down where the caller has it: a buffer that is filled here and handed on would be copied whole.
     pub(crate) fn patterned(count: usize) -> Self {
-        let mut buffer = Buffer::new();
-        buffer.fill(count, u8::PATTERN);
-        buffer
+        Buffer {
+            bytes: [u8::PATTERN; N],
+            length: count.min(N),
+        }
     }
 
     pub(crate) fn as_slice(&self) -> &[u8] {
