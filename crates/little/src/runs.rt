@@ -60,7 +60,7 @@ pub fn clear<T: Zero>(d: &mut [T])
     fill(d, T::ZERO);
 }
 
-// Whether each element is that value: std's `all`, promised in this crate's word for it.
+// Whether each element is that value. All are looked at, so that the compiler compares many at a time: std's `all` leaves early.
 pub fn are_all<T: Copy + PartialEq>(s: &[T], value: T) -> bool
     ensures { result ≡ are_all T.eq value s.now }
 {

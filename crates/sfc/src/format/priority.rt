@@ -51,7 +51,8 @@ impl<'a> Numbers for Stored<'a> {
     }
 }
 
-// Whether x is one of the numbers from place `from` on.
+// Whether x is one of the numbers from place `from` on. All are looked at, so that the compiler compares many at a time: a lawful
+// list has no number twice, and none would end the walk.
 fn is_among<L: Numbers>(x: u32, list: &L, from: usize) -> bool
     ensures { result ≡ any (eqb x) (drop from (L.numbers list.now)) }
 {

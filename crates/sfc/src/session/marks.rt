@@ -24,7 +24,8 @@ pub struct MarksCounted {
     pub barred: usize,
 }
 
-// Whether each mark is one of the three.
+// Whether each mark is one of the three. All are looked at, here and in the count, so that the compiler does many at a time: each
+// call asks this of each mark, and std's `all` leaves early.
 pub(crate) fn are_marks_known(marks: &[u8]) -> bool
     ensures { result ≡ marks_known marks.now }
 {
