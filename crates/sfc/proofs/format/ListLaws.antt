@@ -9,6 +9,7 @@ use mathlib.Core.Logic.{⊎_elim}
 use borrow.Author.Tests.{lt-ltb, le-ltb, lt-leb, le-leb}
 use lib.Dec.{eqb, ltb, leb}
 use lib.ListN.{length, get_or, drop}
+use Rattle.std.proofs.Math.Bool.{or-false, or_assoc}
 use Rattle.std.proofs.Math.Seq.{drop-cons}
 use Rattle.std.proofs.lemmas.List.{drop_all}
 use Rattle.little.specs.Parts.{part}
@@ -48,14 +49,6 @@ stored r from end k e room =
 
 -- ---- whether x is among them
 
-or-none : (found : Bool) → (found || false) ≡ found
-or-none true = refl
-or-none false = refl
-
-or_more : (found here rest : Bool) → (found || (here || rest)) ≡ ((found || here) || rest)
-or_more true here rest = refl
-or_more false here rest = refl
-
 module _ (xs : List ℕ) (x from : ℕ) where
   -- it was found before place i, or is one of those from there on, exactly if it is one at all
   pub Looking : Bool → ℕ → Type 0
@@ -70,11 +63,11 @@ module _ (xs : List ℕ) (x from : ℕ) where
   looking_more found i h w =
       let e : suc i ≡ i + 1 = omega arith in
       let by_one : (found || (eqb x (get_or xs i 0) || any (eqb x) (drop (suc i) xs))) ≡ any (eqb x) (drop from xs) = rw (drop-cons xs i 0 h) at w in
-      sym (or_more found (eqb x (get_or xs i 0)) (any (eqb x) (drop (i + 1) xs))) ∙ rw e at by_one
+      or_assoc found (eqb x (get_or xs i 0)) (any (eqb x) (drop (i + 1) xs)) ∙ rw e at by_one
 
   pub looking_end : (found : Bool) (i : ℕ) → length xs ≤ i → Looking found i → found ≡ any (eqb x) (drop from xs)
   unfolding Looking any
-  looking_end found i h w = let f : (found || false) ≡ any (eqb x) (drop from xs) = rw (drop_all i xs h) at w in sym (or-none found) ∙ f
+  looking_end found i h w = let f : (found || false) ≡ any (eqb x) (drop from xs) = rw (drop_all i xs h) at w in sym (or-false found) ∙ f
 
 -- ---- whether each is below n, and none stands twice
 
